@@ -122,7 +122,7 @@ impl Card {
         }
         let request = self.next_request(terminal);
         self.atc += 1;
-        self.open_request = Some(request.copy());
+        self.open_request = Some(request);
         self.chain = None;
         Some(request)
     }
@@ -194,9 +194,9 @@ impl Card {
         ensures has_valid_ac { result.ac ≡ application_cryptogram self.now.keys result }
     {
         let keys = self.keys;
-        let mut parts = self.next_fields(terminal);
-        let unsigned = Request::new(parts.copy()).unwrap();
-        let session = SessionKey::for_cryptograms(&keys, unsigned.parts().atc);
+        let unsigned = Request::new(self.next_fields(terminal)).unwrap();
+        let mut parts = *unsigned.parts();
+        let session = SessionKey::for_cryptograms(&keys, parts.atc);
         parts.ac = expected(&session, &unsigned);
         Request::new(parts).unwrap()
     }
@@ -208,7 +208,7 @@ impl Card {
         ensures { result ≡ next_fields self.now terminal.now }
     {
         Parts {
-            pan: self.pan.copy(),
+            pan: self.pan,
             psn: self.psn,
             aip: PROFILE,
             atc: self.atc + 1,

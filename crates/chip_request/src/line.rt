@@ -151,7 +151,11 @@ fn queue_form<'a>(text: &'a [u8], bytes: &mut [u8; MAX_CHIP_BYTES]) -> Result<Li
     ensures same { result_map_both (kind_in bytes.new) (λ rest. rest.now) result ≡ queue_at text.now }
     ensures within { IfOk result (λ form. is_within form ≡ true) }
 {
-    let (pan, psn, rest) = read_card(text)?;
+    // As in `read_card`, not by a `?`.
+    let (pan, psn, rest) = match read_card(text) {
+        Ok(found) => found,
+        Err(rest) => return Err(rest),
+    };
     let count = read_data(rest, MAX_QUEUE_BYTES, bytes)?;
     Ok(LineForm::Queue { pan, psn, count })
 }
@@ -162,7 +166,11 @@ fn read_status(text: &[u8]) -> Result<(Pan, u8, u8), &[u8]>
     ensures same { result_map_both (λ found. Set found.0 found.1 found.2) (λ rest. rest.now) result ≡ set_at text.now }
     ensures within { IfOk result (λ found. found.2 ≤ 9) }
 {
-    let (pan, psn, rest) = read_card(text)?;
+    // As in `read_card`, not by a `?`.
+    let (pan, psn, rest) = match read_card(text) {
+        Ok(found) => found,
+        Err(rest) => return Err(rest),
+    };
     let status = read_last_digit(rest)?;
     Ok((pan, psn, status))
 }

@@ -31,7 +31,11 @@ pub(crate) fn read_card(text: &[u8]) -> Result<(Pan, u8, &[u8]), &[u8]>
         ≡ card_at text.now }
 {
     let rest = read_byte(text, b' ')?;
-    let (pan, rest) = read_account_number(rest)?;
+    // A `?` would take by value a copy beside a borrow, for which the toolchain has no rule.
+    let (pan, rest) = match read_account_number(rest) {
+        Ok(found) => found,
+        Err(rest) => return Err(rest),
+    };
     let rest = read_byte(rest, b' ')?;
     let (high, rest) = read_digit(rest)?;
     let (low, rest) = read_digit(rest)?;

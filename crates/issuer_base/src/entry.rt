@@ -26,16 +26,16 @@ impl Entry {
     {
         match self {
             Entry::Decided { request, reply } => Entry::Decided {
-                request: request.copy(),
+                request: *request,
                 reply: reply.copy(),
             },
             Entry::Queued { pan, psn, command } => Entry::Queued {
-                pan: pan.copy(),
+                pan: *pan,
                 psn: *psn,
                 command: command.copy(),
             },
             Entry::Status { pan, psn, status } => Entry::Status {
-                pan: pan.copy(),
+                pan: *pan,
                 psn: *psn,
                 status: *status,
             },

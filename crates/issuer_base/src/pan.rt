@@ -1,45 +1,74 @@
 //! The primary account number of a card.
-ghost use Rattle.std.specs.Prelude.{◌≡◌, ◌≤◌, ◌↔◌, length, IsTrue, nat_le};
+ghost use Rattle.std.specs.Prelude.{◌≡◌, ◌≤◌, ◌==◌, ◌↔◌, length, IsTrue, nat_le};
+ghost use Rattle.std.specs.Cmp.Lexicographic.{pointwise};
+ghost use Rattle.std.specs.Cmp.Rules.{comparing};
 ghost use Rattle.std.specs.List.{list_all};
+ghost use Rattle.std.proofs.Common.{rules};
 ghost use Rattle.issuer_base.specs.CardNumber.{is_pan, pan_from};
 
 use crate::limits::{MAX_PAN_DIGITS, MIN_PAN_DIGITS};
-use arrayvec::ArrayVec;
 use std::marker::Model;
 
 /// A card's primary account number: 8 to 19 decimal digits, from the left, each a value from 0 to 9.
 ///
 /// A contract sees the list of its digits.
-#[derive(PartialEq, Eq, PartialOrd, Ord, Drop)]
+#[derive(Clone, Copy)]
 pub struct Pan {
-    kept: ArrayVec<u8, MAX_PAN_DIGITS>,
+    /// The digits, and zeros after them.
+    digits: [u8; MAX_PAN_DIGITS],
+
+    /// How many digits there are.
+    count: u8,
 }
 
 impl Model for Pan {
-    ghost use Rattle.std.specs.Prelude.{List, ℕ, IsTrue};
-    ghost use Rattle.issuer_base.specs.CardNumber.{is_pan};
+    ghost use Rattle.std.specs.Prelude.{◌≡◌, List, ℕ, IsTrue, length, take};
+    ghost use Rattle.issuer_base.specs.CardNumber.{is_pan, filled_up};
 
     ghost Value = { List ℕ };
 
-    ghost view = { λ pan. pan.kept.items };
+    ghost view = { λ pan. take pan.count pan.digits };
 
-    ghost invariant = { λ pan. IsTrue (is_pan pan.kept.items) };
+    ghost invariant = { λ pan. IsTrue (is_pan (take pan.count pan.digits))
+        × (length (take pan.count pan.digits) ≡ pan.count)
+        × (filled_up (take pan.count pan.digits) ≡ pan.digits) };
 
-    ghost inverse = { λ digits. record { kept = record { items = digits } } };
+    ghost inverse = { λ digits. record { digits = filled_up digits; count = length digits } };
+
+    ghost inverse_ok = { λ pan h. Prim.simp (h.1, h.2) };
+}
+
+impl PartialEq for Pan {
+    ghost eq = { pointwise ◌==◌ };
+
+    ghost laws = { Prim.search (comparing, rules) };
+
+    fn eq(&self, other: &Pan) -> bool {
+        self.digits == other.digits && self.count == other.count
+    }
+}
+
+impl Eq for Pan {
+    ghost laws = { Prim.search (comparing, rules) };
 }
 
 impl Pan {
     /// The account number with these digits. `None` where there are fewer than 8 or more than 19, or
     /// one is above 9.
     #[tactic(auto, unfolding(crate::specs::CardNumber::pan_from))]
+    #[inline(always)]
     pub fn new(digits: &[u8]) -> Option<Pan>
         ensures { result ≡ pan_from digits.now }
     {
         if !is_account_number(digits) {
             return None;
         }
-        let kept = ArrayVec::try_from(digits).ok()?;
-        Some(Pan { kept })
+        let mut filled = [0; MAX_PAN_DIGITS];
+        filled[..digits.len()].copy_from_slice(digits);
+        Some(Pan {
+            digits: filled,
+            count: digits.len() as u8,
+        })
     }
 
     /// The digits, from the left.
@@ -47,7 +76,7 @@ impl Pan {
         ensures same { result.now ≡ self.now }
         ensures valid { IsTrue (is_pan self.now) }
     {
-        self.kept.as_slice()
+        &self.digits[..usize::from(self.count)]
     }
 
     /// Whether the two are the same number, as `==` is.
@@ -55,15 +84,6 @@ impl Pan {
         ensures { IsTrue result ↔ (self.now ≡ other.now) }
     {
         self == other
-    }
-
-    /// A copy. It allocates nothing.
-    pub fn copy(&self) -> Pan
-        ensures { result ≡ self.now }
-    {
-        Pan {
-            kept: ArrayVec::try_from(self.kept.as_slice()).unwrap(),
-        }
     }
 }
 

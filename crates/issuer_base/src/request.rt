@@ -19,7 +19,7 @@ pub enum Suite {
 }
 
 /// The fields of one request for a cryptogram's check, as the terminal sends them: EMV 4.3 Book 3, Annex A.
-#[derive(PartialEq, Eq, Drop)]
+#[derive(Clone, Copy, PartialEq, Eq)]
 pub struct Parts {
     /// The primary account number, tag 5A.
     pub pan: Pan,
@@ -68,29 +68,6 @@ pub struct Parts {
 }
 
 impl Parts {
-    /// A copy. It allocates nothing.
-    pub fn copy(&self) -> Parts
-        ensures { result ≡ self.now }
-    {
-        Parts {
-            pan: self.pan.copy(),
-            psn: self.psn,
-            aip: self.aip,
-            atc: self.atc,
-            tvr: self.tvr,
-            date: self.date,
-            kind: self.kind,
-            amount: self.amount,
-            other: self.other,
-            country: self.country,
-            currency: self.currency,
-            un: self.un,
-            cid: self.cid,
-            iad: self.iad,
-            ac: self.ac,
-        }
-    }
-
     /// Whether all fields are the same, as `==` is.
     pub fn is_same(&self, other: &Parts) -> bool
         ensures { IsTrue result ↔ (self.now ≡ other.now) }
@@ -102,7 +79,7 @@ impl Parts {
 /// A request whose fields have the forms that the host reads.
 ///
 /// A contract sees its `Parts`.
-#[derive(PartialEq, Eq, Drop)]
+#[derive(Clone, Copy, PartialEq, Eq)]
 pub struct Request {
     fields: Parts,
 }
@@ -150,15 +127,6 @@ impl Request {
         ensures { IsTrue result ↔ (self.now ≡ other.now) }
     {
         self == other
-    }
-
-    /// A copy. It allocates nothing.
-    pub fn copy(&self) -> Request
-        ensures { result ≡ self.now }
-    {
-        Request {
-            fields: self.fields.copy(),
-        }
     }
 
     /// Whether the cryptogram is an ARQC, a request to go online, and the first of its transaction:

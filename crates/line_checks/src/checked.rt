@@ -111,7 +111,7 @@ impl CheckedCommand {
         ensures { result ≡ self.now }
     {
         CheckedCommand {
-            pan: self.pan.copy(),
+            pan: self.pan,
             psn: self.psn,
             command: self.command.copy(),
             card: self.card,
@@ -123,7 +123,7 @@ impl CheckedCommand {
         ensures { result ≡ Entry.Queued self.now.pan self.now.psn self.now.command }
     {
         Entry::Queued {
-            pan: self.pan.copy(),
+            pan: self.pan,
             psn: self.psn,
             command: self.command.copy(),
         }
@@ -136,7 +136,7 @@ impl CheckedStatus {
         ensures { result ≡ self.now }
     {
         CheckedStatus {
-            pan: self.pan.copy(),
+            pan: self.pan,
             psn: self.psn,
             status: self.status,
             card: self.card,
@@ -148,7 +148,7 @@ impl CheckedStatus {
         ensures { result ≡ Entry.Status self.now.pan self.now.psn self.now.status }
     {
         Entry::Status {
-            pan: self.pan.copy(),
+            pan: self.pan,
             psn: self.psn,
             status: self.status,
         }

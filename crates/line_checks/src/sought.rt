@@ -3,7 +3,6 @@ ghost use Rattle.std.specs.Prelude.{◌≡◌, ◌<◌, length, IfOk};
 ghost use Rattle.std.specs.Result.{result_map_both};
 ghost use Rattle.card_history.specs.declared.decision.Asked.TheVariants.{Decide};
 ghost use Rattle.issuer_base.specs.declared.request.Suite.TheVariants.{TripleDes};
-ghost use Rattle.issuer_base.specs.ChipData.{suite_of};
 ghost use Rattle.cryptogram_lanes.specs.Checks.{DesCheck};
 ghost use Rattle.cryptogram_lanes.specs.Batch.{right_session};
 ghost use Rattle.issuer_setup.specs.IssuerSetup.{Setup};
@@ -73,7 +72,7 @@ impl SoughtRequest {
             Verdict::Right(key) => key,
         };
         Ok(CheckedRequest {
-            request: self.request.copy(),
+            request: self.request,
             card: self.card,
             keys: issuer.keys(self.slot),
             session: SessionKey::of(Suite::TripleDes, key),
@@ -95,7 +94,7 @@ impl SoughtRequest {
             return Err(Refusal::BadCryptogram);
         }
         Ok(CheckedRequest {
-            request: self.request.copy(),
+            request: self.request,
             card: self.card,
             keys: issuer.keys(self.slot),
             session,

@@ -64,7 +64,7 @@ fn records_are_read_and_written(rt: HostRuntime) -> Result<(), Fail> {
         "an account number",
     )?;
     let status = Entry::Status {
-        pan: pan.copy(),
+        pan,
         psn: 0,
         status: 3,
     };

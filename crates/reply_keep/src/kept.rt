@@ -60,7 +60,7 @@ impl Kept {
         }
         open_before(&mut self.opened, slot);
         self.opened.push_reserved(Some(KeptEntry {
-            request: request.copy(),
+            request: *request,
             reply: reply.copy(),
             place,
         }));
@@ -124,13 +124,13 @@ fn begin(slot: &mut Option<KeptEntry>, request: &Request, reply: &Reply, place: 
             bytes,
         };
         *slot = Some(KeptEntry {
-            request: request.copy(),
+            request: *request,
             reply,
             place,
         });
         return;
     };
-    entry.request = request.copy();
+    entry.request = *request;
     entry.reply.arc = reply.arc;
     entry.reply.approve = reply.approve;
     entry.reply.bytes.clear();

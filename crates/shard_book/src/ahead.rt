@@ -125,13 +125,13 @@ pub(crate) fn look_up_record(issuer: &Issuer, entry: &Entry) -> Result<Sought, R
 {
     match entry {
         Entry::Decided { request, .. } => {
-            let sought = look_up_request(issuer, request.copy())?;
+            let sought = look_up_request(issuer, *request)?;
             Ok(Sought::Request(sought))
         }
         Entry::Queued { pan, psn, command } => {
             let card = issuer.card(pan, *psn).ok_or(Refusal::UnknownCard)?;
             Ok(Sought::Order(CheckedOrder::Command(CheckedCommand {
-                pan: pan.copy(),
+                pan: *pan,
                 psn: *psn,
                 command: command.copy(),
                 card,
@@ -140,7 +140,7 @@ pub(crate) fn look_up_record(issuer: &Issuer, entry: &Entry) -> Result<Sought, R
         Entry::Status { pan, psn, status } => {
             let card = issuer.card(pan, *psn).ok_or(Refusal::UnknownCard)?;
             Ok(Sought::Order(CheckedOrder::Status(CheckedStatus {
-                pan: pan.copy(),
+                pan: *pan,
                 psn: *psn,
                 status: *status,
                 card,

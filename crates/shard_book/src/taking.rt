@@ -48,7 +48,7 @@ impl Rows {
         ensures { (history : List Entry) → RowsStandFor issuer.now self.now history
             → (IsTrue result ↔ IsLegalDecision (grounds_of issuer.now) self.now.shard history request.now reply.now) }
     {
-        let Ok(found) = check_request(issuer, request.copy()) else {
+        let Ok(found) = check_request(issuer, *request) else {
             return false;
         };
         if issuer.shard_of(found.card) != self.shard() {

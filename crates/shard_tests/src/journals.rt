@@ -269,9 +269,8 @@ fn keeps_a_decision_of_either_suite(rt: HostRuntime) -> Result<(), Fail> {
     for suite in [Suite::TripleDes, Suite::Aes] {
         let empty = empty(alloc)?;
         let request = purchase_in(suite).ok_or("a request")?;
-        let repeat = request.copy();
         let (first, left) = reloaded_answer(alloc, &issuer, empty, request)?;
-        let (second, _left) = reloaded_answer(alloc, &issuer, left, repeat)?;
+        let (second, _left) = reloaded_answer(alloc, &issuer, left, request)?;
         assert!(rt; are_decision_and_repeat(&first, &second), "{suite:?}");
     }
     Ok(())

@@ -44,13 +44,13 @@ pub(crate) fn ended(cid: u8) -> Option<Parts> {
 
 /// The line of these fields with the cryptogram that their card makes over them.
 pub(crate) fn certificate(issuer: &Issuer, parts: Parts) -> Option<ArrayVec<u8, MAX_REQUEST_LINE>> {
-    let atc = parts.atc;
-    let request = Request::new(parts.copy())?;
+    let unsigned = Request::new(parts)?;
+    let mut parts = *unsigned.parts();
     let card = issuer.card(&parts.pan, parts.psn)?;
     if card >= issuer.cards() {
         return None;
     }
-    let slot = issuer.key_slot(card, &request)?;
-    let ac = expected(&issuer.session(slot, atc), &request);
-    Some(request_line(&Request::new(Parts { ac, ..parts })?))
+    let slot = issuer.key_slot(card, &unsigned)?;
+    parts.ac = expected(&issuer.session(slot, parts.atc), &unsigned);
+    Some(request_line(&Request::new(parts)?))
 }

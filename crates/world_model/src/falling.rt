@@ -199,7 +199,7 @@ fn replay_decision(issuer: &Issuer, rows: &mut [Row], request: &Request, reply: 
     ensures replayed { Replays issuer.now (Entry.Decided request.now reply.now) place rows.old rows.new }
     ensures count { length rows.new ≡ length rows.old }
 {
-    let Ok(found) = check_request(issuer, request.copy()) else {
+    let Ok(found) = check_request(issuer, *request) else {
         return;
     };
     let CheckedRequest {

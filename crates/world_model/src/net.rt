@@ -232,7 +232,7 @@ impl Net {
         let info = self.issuer.info(number);
         let home = usize::from(self.issuer.shard_of(number));
         self.shards[home].add(Entry::Queued {
-            pan: info.pan.copy(),
+            pan: info.pan,
             psn: info.psn,
             command: command.copy(),
         })?;
@@ -255,7 +255,7 @@ impl Net {
         let info = self.issuer.info(number);
         let home = usize::from(self.issuer.shard_of(number));
         self.shards[home].add(Entry::Status {
-            pan: info.pan.copy(),
+            pan: info.pan,
             psn: info.psn,
             status,
         })?;
@@ -334,7 +334,7 @@ impl Net {
             (claim_of caller self.now.claims.items) }
     {
         let claim = claim_of(self.claims.as_slice(), caller)?;
-        Some(claim.request.copy())
+        Some(claim.request)
     }
 
     /// The issuer's own decision of a request that it decides, if its counter is in the window and unused.
@@ -348,7 +348,7 @@ impl Net {
             × IsLegalDecision (grounds_of self.now.issuer) (home_of (world_of self.now) request.now)
             (history_for (world_of self.now) request.now) request.now exchange.reply) }
     {
-        let Ok(found) = check_request(&self.issuer, request.copy()) else {
+        let Ok(found) = check_request(&self.issuer, *request) else {
             return None;
         };
         let row = &self.rows[found.card as usize];
@@ -374,7 +374,7 @@ impl Net {
         ensures unchanged { OnErr result (world_of self.new ≡ world_of self.old) }
         ensures rows { Stands self.new }
     {
-        let Ok(found) = check_request(&self.issuer, exchange.request.copy()) else {
+        let Ok(found) = check_request(&self.issuer, exchange.request) else {
             return Ok(());
         };
         let CheckedRequest {
@@ -386,7 +386,7 @@ impl Net {
         let home = usize::from(self.issuer.shard_of(card));
         let place = self.shards[home].history().len() as u64;
         self.shards[home].add(Entry::Decided {
-            request: exchange.request.copy(),
+            request: exchange.request,
             reply: exchange.reply.copy(),
         })?;
         let reply = exchange.reply.copy();
@@ -463,7 +463,7 @@ fn decision_in(entry: &Entry) -> Option<Exchange>
 {
     match entry {
         Entry::Decided { request, reply } => Some(Exchange {
-            request: request.copy(),
+            request: *request,
             reply: reply.copy(),
         }),
         _ => None,
@@ -499,8 +499,7 @@ fn new_card(alloc: Global, info: &CardInfo, set: &KeySet, suite: Suite) -> Card
     ensures { IsCardUnder set.now suite info.now result }
 {
     let keys = card_keys(set, suite, &info.pan, info.psn).unwrap();
-    let pan = info.pan.copy();
-    Card::new(alloc, pan, info.psn, set.dki, info.method, keys)
+    Card::new(alloc, info.pan, info.psn, set.dki, info.method, keys)
 }
 
 /// A row without records for each card.

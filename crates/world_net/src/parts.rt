@@ -34,7 +34,7 @@ impl Exchange {
         ensures { result ≡ self.now }
     {
         Exchange {
-            request: self.request.copy(),
+            request: self.request,
             reply: self.reply.copy(),
         }
     }

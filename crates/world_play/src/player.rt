@@ -217,7 +217,7 @@ fn reply_in(answer: Answer) -> Option<Reply>
 fn spoiled(request: &Request) -> Request
     ensures { result ≡ spoiled request.now }
 {
-    let mut parts = request.parts().copy();
+    let mut parts = *request.parts();
     parts.ac[7] ^= 0x01;
     Request::new(parts).unwrap()
 }

@@ -9,5 +9,5 @@ returns-then-self-clause-step c = rw (← c.self.view_is) (tap-last _ c.args.ter
 pub returns-clause-step : goal.returns-clause-step
 unfolding with_open
 returns-clause-step c =
-    rw (← c.self.view_is, c.copy.ensures)
+    rw (← c.self.view_is)
     (tap-next _ c.args.terminal.now c.next_request-request.result c.if-self.false (rw c.self.view_is c.next_request-request.ensures.exact))

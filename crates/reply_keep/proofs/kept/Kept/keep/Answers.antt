@@ -21,7 +21,7 @@ returns c =
     let stored : Request → Reply → Option Decision = λ request reply. Some (record { request = request; reply = reply; place = c.args.place }) in
     rw (← c.self.view_is) (
     ap all_slots c.push_reserved.ensures.items
-    ∙ all_slots-pushed c.self.inside.opened.items c.open_before.new.opened.items c.from-slot.result (stored c.copy.result c.copy-2.result)
+    ∙ all_slots-pushed c.self.inside.opened.items c.open_before.new.opened.items c.from-slot.result (stored c.args.request.now c.copy.result)
     (omega (arith, c.if-slot-len.false)) (omega (arith, same, few)) c.open_before.ensures.grown
     ∙ ap₂ (λ (slot : ℕ) (value : Option Decision). set (all_slots c.self.inside.opened.items) slot value) same
-    (ap₂ stored c.copy.ensures c.copy-2.ensures))
+    (ap (stored c.args.request.now) c.copy.ensures))

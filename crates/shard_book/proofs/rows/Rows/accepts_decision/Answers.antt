@@ -19,14 +19,15 @@ returns c history stands =
     let reply = c.args.reply.now in
     let shard = c.args.self.now.shard in
     let at_hand = c.in-Ok.ensures.at_hand in
-    let passes : checked issuer c.copy.result ≡ Ok (Decide asked) = sym c.in-Ok.ensures.request in
-    let own : asked ≡ c.copy.result = checked-own issuer c.copy.result asked passes in
+    let request = c.args.request.now in
+    let passes : checked issuer request ≡ Ok (Decide asked) = sym c.in-Ok.ensures.request in
+    let own : asked ≡ request = checked-own issuer request asked passes in
     let right : checked issuer asked ≡ Ok (Decide asked) = subst (λ (r : Request). checked issuer r ≡ Ok (Decide asked)) (sym own) passes in
     let card = card-found issuer (card_of asked) found.card at_hand.card_is in
     let its : found.card % issuer.shards ≡ shard = sym c.shard_of.ensures.number ∙ c.if-shard_of-shard.false ∙ c.shard.ensures in
     let home = card-at_home issuer c.args.self.now c.requires (card_of asked) found.card at_hand.card_is.number_is its in
     let accepted = c.accepts_checked.ensures issuer card.card history stands card.known (sym card.named) in
-    subst (λ (r : Request). IsTrue c.accepts_checked.result ↔ IsLegalDecision (grounds_of issuer) shard history r reply) (own ∙ c.copy.ensures) (
+    subst (λ (r : Request). IsTrue c.accepts_checked.result ↔ IsLegalDecision (grounds_of issuer) shard history r reply) own (
       λ taken.
           decision-legal Two issuer shard history asked reply found.card card.card found.keys at_hand.card_is.number_is card.known.card_is
           at_hand.keys_are home right (accepted.0 taken),

@@ -7,7 +7,6 @@ use Rattle.card_history.specs.declared.decision.Asked.TheVariants.{Decide}
 use Rattle.card_history.specs.LegalRecords.{IsLegalDecision}
 use Rattle.card_history.specs.Records.{card_of}
 use Rattle.issuer_setup.specs.CardList.{number_of}
-use Rattle.line_checks.specs.Reading.{checked}
 use Rattle.shard_book.proofs.LegalDecisions.{legal-checked}
 use Rattle.line_checks.proofs.Numbers.{number-within}
 use Rattle.shard_book.specs.Grounds.{grounds_of}
@@ -42,14 +41,13 @@ returns-clause-rows c =
     let legal = c.requires.legal in
     let place = found.card % world.issuer.shards in
     let passed : Ok (Decide found.request) ≡ Ok (Decide request) =
-    c.in-Ok.ensures.request ∙ ap (checked world.issuer) c.copy.ensures ∙ legal-checked world.issuer legal in
+    c.in-Ok.ensures.request ∙ legal-checked world.issuer legal in
     let same : found.request ≡ request = cc in
     let at_home : c.from-home.result ≡ place = c.from-home.ensures ∙ c.shard_of.ensures.number in
     let within : c.from-home.result < length world.shards = omega (arith, c.from-home.ensures, c.shard_of.ensures.below, c.requires.shards) in
     let home : home_of world request ≡ place =
     home-card world request found.card (ap (λ (q : Request). number_of (card_of q) world.issuer.cards) (sym same) ∙ at_hand.card_is.number_is) in
-    let made : Decided c.copy-2.result c.copy-3.result ≡ Decided request reply =
-    ap (λ (q : Request). Decided q c.copy-3.result) c.copy-2.ensures ∙ ap (Decided request) c.copy-3.ensures in
+    let made : Decided request c.copy.result ≡ Decided request reply = ap (Decided request) c.copy.ensures in
     let shards_are = shards-record world.shards c.from-home.result place (Decided request reply) _ c.index_mut.result.now c.add.new.self at_home within
     c.index_mut.ensures.value made c.in_ok-add.ensures.added in
     let read : c.index.result.now ≡ at world.shards c.from-home.result = shard-read world.shards _ _ within c.index.ensures in

@@ -9,7 +9,6 @@ use Rattle.decision_table.specs.declared.row.TableRow.{TableRow}
 use Rattle.issuer_setup.specs.CardList.{number_of}
 use Rattle.issuer_setup.specs.IssuerSetup.{keys_of}
 use Rattle.issuer_setup.proofs.CardListLemmas.{number_of-found}
-use Rattle.line_checks.specs.Reading.{checked}
 use Rattle.line_checks.proofs.Numbers.{number-within}
 use Rattle.row_core.specs.Plan.{IsPlan, IsStep}
 use Rattle.shard_book.specs.Grounds.{grounds_of}
@@ -43,7 +42,7 @@ planned c =
     let row = c.index-row.result.now in
     let outcome = c.plan.result in
     let passed : Ok (Decide found.request) ≡ Ok (Decide request) =
-    c.in-Ok.ensures.request ∙ ap (checked world.issuer) c.copy.ensures ∙ c.requires.checked in
+    c.in-Ok.ensures.request ∙ c.requires.checked in
     let same : found.request ≡ request = cc in
     let number_is : number_of (card_of request) world.issuer.cards ≡ Some found.card =
     ap (λ (q : Request). number_of (card_of q) world.issuer.cards) (sym same) ∙ at_hand.card_is.number_is in

@@ -1,5 +1,5 @@
 -- The row of the card and its shard have the command.
-use Rattle.std.proofs.Common.{◌≡◌, ◌<◌, ◌%◌, ◌++◌, ◌∷◌, [], List, length, set, IsOk, ap, sym, ◌∙◌, subst, arith, refl, ℕ}
+use Rattle.std.proofs.Common.{◌≡◌, ◌<◌, ◌%◌, ◌++◌, ◌∷◌, [], length, set, IsOk, ap, sym, ◌∙◌, subst, arith, refl}
 use Rattle.issuer_base.specs.declared.command.Command.{Command}
 use Rattle.issuer_base.specs.declared.entry.Entry.TheVariants.{Queued}
 use Rattle.script_queue.specs.CommandQueue.{TakesOneMore}
@@ -21,7 +21,7 @@ added c =
     let at_home : c.from-home.result ≡ c.args.number % world.issuer.shards = c.from-home.ensures ∙ c.shard_of.ensures.number in
     let within : c.from-home.result < length world.shards = omega (arith, c.from-home.ensures, c.shard_of.ensures.below, c.requires.shards) in (
       shards-record world.shards c.from-home.result _ _ _ c.index_mut.result.now c.add.new.self at_home within c.index_mut.ensures.value
-          (ap (λ (pan : List ℕ). Queued pan info.psn c.copy-2.result) c.copy.ensures ∙ ap (Queued info.pan info.psn) c.copy-2.ensures)
+          (ap (Queued info.pan info.psn) c.copy.ensures)
           c.in_ok-add.ensures.added,
       subst (λ home. home < length world.shards) at_home within,
     )
@@ -47,7 +47,7 @@ returns-clause-rows c =
     let ok : IsOk c.push.result =
     c.push.ensures.taken.1 (subst TakesOneMore (sym (ap (λ (kept : KeptScripts). kept.commands) stands.scripts_are)) takes) in
     let there = ok-then c.push.result _ c.push.ensures.queued ok info history stands in
-    let row = subst (λ (command : Command). StandsFor info c.push.new.self (history ++ Queued info.pan info.psn command ∷ [])) c.copy-3.ensures there in
+    let row = subst (λ (command : Command). StandsFor info c.push.new.self (history ++ Queued info.pan info.psn command ∷ [])) c.copy-2.ensures there in
     subst (RowsStand world.issuer (set rows number c.push.new.self)) (sym shards_are.0)
     (rows-record world.issuer rows world.shards c.requires.rows number info (Queued info.pan info.psn c.args.command.now) c.push.new.self
     c.cards.ensures.valid c.requires.shards shards_are.1 c.info-info.ensures refl row)

@@ -1,5 +1,5 @@
 -- The row of the card and its shard have the status.
-use Rattle.std.proofs.Common.{◌≡◌, ◌<◌, ◌%◌, List, length, set, ap, sym, ◌∙◌, subst, arith, refl, ℕ}
+use Rattle.std.proofs.Common.{◌≡◌, ◌<◌, ◌%◌, length, set, sym, ◌∙◌, subst, arith, refl}
 use Rattle.issuer_base.specs.declared.entry.Entry.TheVariants.{Status}
 use Rattle.world_model.specs.Stepping.{world_of, RowsStand}
 use Rattle.world_net.proofs.Hosts.{at, recorded}
@@ -16,7 +16,7 @@ added c =
     let at_home : c.from-home.result ≡ c.args.number % world.issuer.shards = c.from-home.ensures ∙ c.shard_of.ensures.number in
     let within : c.from-home.result < length world.shards = omega (arith, c.from-home.ensures, c.shard_of.ensures.below, c.requires.shards) in (
       shards-record world.shards c.from-home.result _ _ _ c.index_mut.result.now c.add.new.self at_home within c.index_mut.ensures.value
-          (ap (λ (pan : List ℕ). Status pan info.psn c.args.status) c.copy.ensures) c.in_ok-add.ensures.added,
+          refl c.in_ok-add.ensures.added,
       subst (λ home. home < length world.shards) at_home within,
     )
 
