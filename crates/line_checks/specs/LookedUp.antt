@@ -7,6 +7,7 @@ use Rattle.issuer_base.specs.declared.request.Request.{Request}
 use Rattle.issuer_base.specs.declared.request.Suite.TheVariants.{TripleDes}
 use Rattle.issuer_base.specs.ChipData.{is_arqc, suite_of}
 use Rattle.card_history.specs.Records.{card_of}
+use Rattle.card_history.specs.declared.decision.Asked.{Asked}
 use Rattle.chip_request.specs.declared.line.LineKind.TheVariants.{Ask}
 use Rattle.chip_request.specs.LineParts.{line_of}
 use Rattle.chip_request.specs.Reading.{request_of}
@@ -62,6 +63,11 @@ pub record HasKeysAtHand (issuer : Setup) (sought : SoughtRequest) : Type 0 wher
 abbrev pub IsSought : Setup → List ℕ → Sought → Type 0
 IsSought issuer line (IsRequest sought) = CarriesRequest line sought.request × HasKeysAtHand issuer sought
 IsSought issuer line (Order found) = (reading issuer line ≡ Ok (order_asked found)) × IsOrderAtHand issuer found
+
+-- the order is what is asked, and passed every check
+abbrev pub IsOrderSought : Setup → Result Asked Refusal → Sought → Type 0
+IsOrderSought issuer asked (IsRequest sought) = ⊥
+IsOrderSought issuer asked (Order found) = (asked ≡ Ok (order_asked found)) × IsOrderAtHand issuer found
 
 -- this is what the look-up of the line gives: what it asks, or its refusal, which isn't for a bad cryptogram
 abbrev pub IsLookUp : Setup → List ℕ → Result Sought Refusal → Type 0

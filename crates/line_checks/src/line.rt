@@ -6,7 +6,7 @@ ghost use Rattle.line_checks.specs.Reading.{reading};
 ghost use Rattle.line_checks.specs.AtHand.{asked_of, IsAtHand};
 ghost use Rattle.line_checks.specs.LookedUp.{IsSought};
 
-use crate::card::{check_command, check_status};
+use crate::card::{look_up_command, look_up_status};
 use crate::checked::Checked;
 use crate::request::{find_keys, refusal_of};
 use crate::sought::{Sought, SoughtRequest, Verdict};
@@ -59,12 +59,8 @@ pub fn look_up(
             }));
         }
         LineForm::Queue { pan, psn, count } => {
-            let found = check_command(issuer, pan, psn, &data[..count])?;
-            return Ok(Sought::Order(found));
+            return look_up_command(issuer, pan, psn, &data[..count]);
         }
-        LineForm::Set { pan, psn, status } => {
-            let found = check_status(issuer, pan, psn, status)?;
-            return Ok(Sought::Order(found));
-        }
+        LineForm::Set { pan, psn, status } => return look_up_status(issuer, pan, psn, status),
     }
 }
