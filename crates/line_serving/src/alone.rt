@@ -80,7 +80,9 @@ impl<S: Store> AloneHost<S> {
         }
     }
 
-    /// Answers the line with this number. The gate is called before it and after it. The answer goes into the block.
+    /// Answers the line with this number. The gate is called before it and after it. The answer goes into the block. It is a
+    /// function of its own, so that lines that wait don't pay for its memory.
+    #[inline(never)]
     fn answer_at_once<R: Wait, G: Gate>(
         &mut self,
         rt: &R,
