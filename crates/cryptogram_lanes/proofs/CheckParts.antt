@@ -56,6 +56,14 @@ pub whole-parts : (keys : List Key16) (atcs : List ℕ) (inputs acs : List (List
 whole-parts keys atcs inputs acs checks is whole =
     subst (ArePartsOf keys atcs inputs acs) is (are-parts keys atcs inputs acs whole.2 whole.3 (omega (arith, whole.0, whole.1)))
 
+-- where there are fewer checks than 128, each list has room
+pub room-left : (keys : List Key16) (atcs : List ℕ) (inputs acs : List (List ℕ)) (checks : List DesCheck) → checks_from keys atcs inputs acs ≡ checks
+    → (length atcs ≤ 128) × (length keys ≡ 128) × (length inputs ≡ length atcs) × (length acs ≡ length atcs) → length checks < 128
+    → (length atcs < 128) × (length inputs < 128) × (length acs < 128)
+room-left keys atcs inputs acs checks is whole few =
+    let count = (whole-parts keys atcs inputs acs checks is whole).count in
+    (omega (arith, few, count), omega (arith, few, count, whole.2), omega (arith, few, count, whole.3))
+
 -- one more check, as it is pushed to each list
 pub from-added : (keys : List Key16) (atcs : List ℕ) (inputs acs : List (List ℕ)) (more : List ℕ) (more_inputs more_acs : List (List ℕ)) (n : ℕ)
     (check : DesCheck) (checks : List DesCheck) → checks_from keys atcs inputs acs ≡ checks
@@ -76,7 +84,9 @@ whole-added keys atcs inputs acs more more_inputs more_acs n check whole room em
     let one_more : length more ≡ length atcs + 1 = ap length em ∙ length-append atcs (check.atc ∷ []) in
     let one_input : length more_inputs ≡ length inputs + 1 = ap length ei ∙ length-append inputs (check.input ∷ []) in
     let one_ac : length more_acs ≡ length acs + 1 = ap length ea ∙ length-append acs (check.ac ∷ []) in
-    (omega (arith, one_more, room), length-set keys n check.key ∙ whole.1, omega (arith, one_more, one_input, whole.2), omega (arith, one_more, one_ac, whole.3))
+    let inputs_too : length more_inputs ≡ length more = omega (arith, one_more, one_input, whole.2) in
+    let acs_too : length more_acs ≡ length more = omega (arith, one_more, one_ac, whole.3) in
+    (omega (arith, one_more, room), length-set keys n check.key ∙ whole.1, inputs_too, acs_too)
 
 -- with no ATC there is no check
 pub from-none : (keys : List Key16) (atcs : List ℕ) (inputs acs : List (List ℕ)) → atcs ≡ [] → checks_from keys atcs inputs acs ≡ []
