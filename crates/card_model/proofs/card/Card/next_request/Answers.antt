@@ -29,8 +29,11 @@ returns-clause-exact c =
     let same : c.parts-parts.result.now ≡ unsigned = c.parts-parts.ensures.same in
     let own = same ∙ sym (request_from-some _ _ first).1 in
     let session = c.for_cryptograms-session.ensures ∙ ap (λ (parts : Parts). session_of c.self.inside.keys parts.atc) same in
-    let signed = c.expected-parts.ensures ∙ ap (λ key. cryptogram_under key unsigned) session ∙ ap (λ (card : CardState). application_cryptogram card.keys unsigned) c.self.view_is in
-    next_request-made c.args.self.now c.args.terminal.now _ _ _ _ (own ∙ c.next_fields.ensures) (ap request_from own ∙ first) signed (sym c.new-2.ensures ∙ c.unwrap.ensures)
+    let signed =
+    c.expected-parts.ensures ∙ ap (λ key. cryptogram_under key unsigned) session
+    ∙ ap (λ (card : CardState). application_cryptogram card.keys unsigned) c.self.view_is in
+    next_request-made c.args.self.now c.args.terminal.now _ _ _ _ (own ∙ c.next_fields.ensures) (ap request_from own ∙ first) signed
+    (sym c.new-2.ensures ∙ c.unwrap.ensures)
 
 pub returns-clause-has_valid_ac : goal.returns-clause-has_valid_ac
 returns-clause-has_valid_ac c = rw (returns-clause-exact c) (next_request-valid_ac c.args.self.now c.args.terminal.now)
