@@ -11,8 +11,8 @@ use Rattle.retail_mac.proofs.Blocks.{length-retail_mac}
 use Rattle.aes_cipher.specs.Cipher.{xor_bytes, sub_bytes, shift_rows, state_of, last_round, ciphered, aes_encipher}
 use Rattle.aes_cipher.specs.Mac.{chained, cmac}
 use Rattle.aes_cipher.proofs.Laws.{length-aes_encipher}
-use Rattle.suite_mac.specs.SuiteMac.{mac_of}
-use Rattle.suite_mac.proofs.Lengths.{length-mac_of}
+use Rattle.key_derive.specs.SuiteMac.{mac_of}
+use Rattle.key_derive.proofs.MacLengths.{length-mac_of}
 use Rattle.arpc_methods.specs.Arpc.{eight_of, method1, method2, value91}
 
 -- ---- under a key of sixteen bytes

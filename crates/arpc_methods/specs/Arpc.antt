@@ -4,7 +4,7 @@ use Rattle.std.specs.Prelude.{ℕ, List, ◌++◌, take, replicate}
 use Rattle.des_block.specs.Cipher.{tdes_encipher}
 use Rattle.aes_cipher.specs.Cipher.{aes_encipher}
 use Rattle.retail_mac.specs.Mac.{xor_bytes}
-use Rattle.suite_mac.specs.SuiteMac.{mac_of}
+use Rattle.key_derive.specs.SuiteMac.{mac_of}
 use Rattle.issuer_base.specs.declared.request.Suite.{Suite}
 use Rattle.issuer_base.specs.declared.request.Suite.TheVariants.{TripleDes, Aes}
 use Rattle.issuer_base.specs.declared.answer.Method.{Method}

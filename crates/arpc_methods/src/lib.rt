@@ -10,7 +10,7 @@ use aes_cipher::Aes;
 use arrayvec::ArrayVec;
 use des_block::{Key16, Tdes};
 use issuer_base::{Method, Suite};
-use suite_mac::{MacKey, first_half, with_zeros};
+use key_derive::{MacKey, first_half, with_zeros};
 
 /// The ARPC by method 1: the application cryptogram, with the response code xored into its first two bytes, enciphered
 /// under the session key for cryptograms. EMV 4.3 Book 2, section 8.2.1. With AES zeros fill the block, and the ARPC is

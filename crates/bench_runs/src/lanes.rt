@@ -1,8 +1,7 @@
 //! Ciphers, MACs and checks of cryptograms in lanes, beside the same one by one. Each has a key of its own.
 
 use crate::counts::{Counts, one};
-use cryptogram_in::holds;
-use cryptogram_lanes::KeyedRequest;
+use cryptogram_in::{DesChecks, holds};
 use des_block::{Des, Key16};
 use des_lanes::{LaneBlocks, des_encipher};
 use issuer_base::{Pan, Parts, Request, Suite};
@@ -102,12 +101,18 @@ fn macs_through_lanes(count: u64) -> u64 {
     last
 }
 
+/// A request, and the master key of its card for application cryptograms, of triple DES.
+#[derive(Drop)]
+struct KeyedRequest {
+    key: Key16,
+    request: Request,
+}
+
 /// Requests of one card with triple DES keys, with the ATCs from 0.
 fn requests(alloc: Global, count: u64) -> Option<Vec<KeyedRequest>> {
     let mut requests = Vec::new(alloc);
     for i in 0..count {
         let entry = KeyedRequest {
-            suite: Suite::TripleDes,
             key: key_of(i),
             request: request(u16::try_from(i).ok()?)?,
         };
@@ -155,7 +160,7 @@ fn checks(count: u64, requests: &[KeyedRequest]) -> u64 {
 /// Whether a request's cryptogram is right.
 fn is_right(entry: &KeyedRequest) -> bool {
     let keys = CardKeys {
-        suite: entry.suite,
+        suite: Suite::TripleDes,
         ac: entry.key,
         smi: entry.key,
     };
@@ -170,8 +175,12 @@ fn checks_in_lanes(count: u64, requests: &[KeyedRequest]) -> u64 {
     }
     let mut right = 0u64;
     for _ in 0..count / (requests.len() as u64).max(1) {
-        for holds in cryptogram_lanes::holds(requests).as_slice() {
-            right = right.wrapping_add(*holds as u64);
+        let mut checks = DesChecks::new();
+        for entry in requests {
+            checks.push(entry.key, &entry.request);
+        }
+        for session in checks.right_sessions().as_slice() {
+            right = right.wrapping_add(session.is_some() as u64);
         }
     }
     right

@@ -3,7 +3,8 @@ use Rattle.std.proofs.Common.{◌≡◌, ℕ, List, true, false, refl, sym, subs
 use Rattle.std.proofs.lemmas.Bool.{and_parts, and_from, eqb-true, eq-eqb, false_from_ne_true}
 use lib.Pointwise.{bytes_decides}
 use Rattle.issuer_base.specs.declared.request.Request.{Request}
-use Rattle.card_history.specs.Records.{CardName, named, card_of, is_of, has_numbers}
+use Rattle.issuer_base.specs.CardNames.{CardName, named}
+use Rattle.card_history.specs.Records.{card_of, is_of, has_numbers}
 
 -- a request is of the card that its numbers name
 pub is_of-card_of : (request : Request) → is_of (card_of request) request ≡ true

@@ -10,7 +10,8 @@ use Rattle.issuer_base.specs.declared.answer.Reply.{Reply}
 use Rattle.issuer_base.specs.declared.entry.Entry.{Entry}
 use Rattle.issuer_base.specs.declared.entry.Entry.TheVariants.{Decided, Queued, Status}
 use Rattle.cvr_settle.specs.declared.settlement.Flight.{Flight}
-use Rattle.card_history.specs.Records.{CardName, is_of, has_numbers, queue}
+use Rattle.issuer_base.specs.CardNames.{CardName}
+use Rattle.card_history.specs.Records.{is_of, has_numbers, queue}
 use Rattle.card_history.specs.Scripts.{Scripts, undone, in_flight, with_command, with_newest, is_newest, with_decision, after_record, scripts_of}
 use Rattle.card_history.specs.Scripts.{batch_of, first_of}
 use Rattle.card_history.specs.ScriptOrder.{IsSentAt, IsSent, AreInOrder}

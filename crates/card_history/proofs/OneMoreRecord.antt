@@ -11,7 +11,8 @@ use Rattle.issuer_base.specs.declared.answer.Reply.{Reply}
 use Rattle.issuer_base.specs.declared.entry.Entry.{Entry}
 use Rattle.issuer_base.specs.declared.entry.Entry.TheVariants.{Decided, Queued, Status}
 use Rattle.card_history.specs.declared.decision.Decision.{Decision}
-use Rattle.card_history.specs.Records.{CardName, is_of, decided_from, decided, greatest}
+use Rattle.issuer_base.specs.CardNames.{CardName}
+use Rattle.card_history.specs.Records.{is_of, decided_from, decided, greatest_atc}
 
 -- the decisions among records that are followed by others
 pub decided_from-append : (place : ℕ) (card : CardName) (before after : List Entry)
@@ -55,11 +56,11 @@ decided-other card history request reply other =
 
 -- one more decision raises the greatest counter, or leaves it
 pub greatest-more : (decisions : List Decision) (decision : Decision)
-    → greatest (decisions ++ decision ∷ []) ≡ Some (option_map_or (λ top. max top decision.request.atc) (greatest decisions) decision.request.atc)
+    → greatest_atc (decisions ++ decision ∷ []) ≡ Some (option_map_or (λ top. max top decision.request.atc) (greatest_atc decisions) decision.request.atc)
 greatest-more [] decision = refl
 greatest-more (first ∷ decisions) decision =
     ap (λ so_far. Some (option_map_or (λ counter. max first.request.atc counter) so_far first.request.atc)) (greatest-more decisions decision)
-    ∙ elim (greatest decisions) as (λ so_far. Some (max first.request.atc (option_map_or (λ top. max top decision.request.atc) so_far decision.request.atc))
+    ∙ elim (greatest_atc decisions) as (λ so_far. Some (max first.request.atc (option_map_or (λ top. max top decision.request.atc) so_far decision.request.atc))
     ≡ Some (max (option_map_or (λ counter. max first.request.atc counter) so_far first.request.atc) decision.request.atc)) [
       | None ↦ refl
       | Some top ↦ let same : max first.request.atc (max top decision.request.atc) ≡ max (max first.request.atc top) decision.request.atc =
@@ -67,11 +68,11 @@ greatest-more (first ∷ decisions) decision =
     ]
 
 -- only no decisions have no greatest counter
-pub greatest-none : (decisions : List Decision) → greatest decisions ≡ None → decisions ≡ []
+pub greatest-none : (decisions : List Decision) → greatest_atc decisions ≡ None → decisions ≡ []
 greatest-none [] none = refl
 greatest-none (first ∷ decisions) none = cc
 
-cases_greatest : (decisions : List Decision) → (greatest decisions ≡ None) ⊎ ((top : ℕ) × (greatest decisions ≡ Some top))
+cases_greatest : (decisions : List Decision) → (greatest_atc decisions ≡ None) ⊎ ((top : ℕ) × (greatest_atc decisions ≡ Some top))
 cases_greatest [] = inl refl
 cases_greatest (first ∷ decisions) = inr (_, refl)
 
@@ -80,7 +81,7 @@ below-all : (decisions : List Decision) (so_far top : ℕ) → so_far ≤ top �
 below-all [] so_far top le below = tt
 below-all (first ∷ decisions) so_far top le below = (omega arith, below-all decisions so_far top le below.1)
 
-greatest-above_each : (decisions : List Decision) (top : ℕ) → greatest decisions ≡ Some top
+greatest-above_each : (decisions : List Decision) (top : ℕ) → greatest_atc decisions ≡ Some top
     → AllByRecursion (λ decision. decision.request.atc ≤ top) decisions
 greatest-above_each [] top is = tt
 greatest-above_each (first ∷ decisions) top is =
@@ -99,5 +100,5 @@ greatest-above_each (first ∷ decisions) top is =
     ]
 
 -- no decision is on a greater counter than the greatest
-pub greatest-above : (decisions : List Decision) (top : ℕ) → greatest decisions ≡ Some top → All (λ decision. decision.request.atc ≤ top) decisions
+pub greatest-above : (decisions : List Decision) (top : ℕ) → greatest_atc decisions ≡ Some top → All (λ decision. decision.request.atc ≤ top) decisions
 greatest-above decisions top is = All-from_recursion (λ decision. decision.request.atc ≤ top) decisions (greatest-above_each decisions top is)

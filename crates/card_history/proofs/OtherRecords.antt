@@ -8,7 +8,8 @@ use Rattle.issuer_base.specs.declared.request.Request.{Request}
 use Rattle.issuer_base.specs.declared.answer.Reply.{Reply}
 use Rattle.issuer_base.specs.declared.entry.Entry.{Entry}
 use Rattle.issuer_base.specs.declared.entry.Entry.TheVariants.{Decided, Queued, Status}
-use Rattle.card_history.specs.Records.{CardName, has_numbers, decided, queue, statuses, status_of}
+use Rattle.issuer_base.specs.CardNames.{CardName}
+use Rattle.card_history.specs.Records.{has_numbers, decided, queue, statuses, status_of}
 use Rattle.card_history.proofs.OneMoreRecord.{decided_from-append}
 
 -- the commands that records queue for a card, and then those of other records

@@ -18,7 +18,8 @@ use Rattle.cvr_settle.specs.declared.settlement.Settled.TheVariants.{Ran, Nothin
 use Rattle.cvr_settle.specs.Settlement.{settled}
 use Rattle.script_queue.specs.ScriptTemplate.{fitting_front}
 use Rattle.script_queue.proofs.FittingFronts.{fitting_front-within}
-use Rattle.card_history.specs.Records.{CardName, is_of, has_numbers, decided, greatest, queue}
+use Rattle.issuer_base.specs.CardNames.{CardName}
+use Rattle.card_history.specs.Records.{is_of, has_numbers, decided, greatest_atc, queue}
 use Rattle.card_history.specs.Scripts.{Scripts, no_scripts, undone, waiting, with_command, settled_by, launched, with_newest, is_newest}
 use Rattle.card_history.specs.Scripts.{with_decision, after_record, scripts_of}
 use Rattle.card_history.proofs.OneMoreRecord.{decided-more, decided-other, greatest-more}
@@ -108,27 +109,27 @@ with_decision-hi request scripts =
     (λ is. sym (cond-true newest (Some request.atc) scripts.hi is) ∙ newest-hi request.atc scripts.hi)
     (λ not. sym (cond-false newest (Some request.atc) scripts.hi not) ∙ newest-hi request.atc scripts.hi)
 
-hi-step : (card : CardName) (history : List Entry) (entry : Entry) → (scripts_of card history).hi ≡ greatest (decided card history)
-    → (after_record card (scripts_of card history) entry).hi ≡ greatest (decided card (history ++ entry ∷ []))
+hi-step : (card : CardName) (history : List Entry) (entry : Entry) → (scripts_of card history).hi ≡ greatest_atc (decided card history)
+    → (after_record card (scripts_of card history) entry).hi ≡ greatest_atc (decided card (history ++ entry ∷ []))
 hi-step card history (Decided request reply) so_far =
     cond_both (is_of card request) (with_decision request (scripts_of card history)) (scripts_of card history)
-    (λ after. after.hi ≡ greatest (decided card (history ++ Decided request reply ∷ [])))
+    (λ after. after.hi ≡ greatest_atc (decided card (history ++ Decided request reply ∷ [])))
     (λ its. with_decision-hi request (scripts_of card history)
     ∙ ap (λ hi. Some (option_map_or (λ top. max top request.atc) hi request.atc)) so_far
     ∙ sym (greatest-more (decided card history) (record { request = request; reply = reply; place = length history }))
-    ∙ ap greatest (sym (decided-more card history request reply its)))
-    (λ other. so_far ∙ ap greatest (sym (decided-other card history request reply other)))
+    ∙ ap greatest_atc (sym (decided-more card history request reply its)))
+    (λ other. so_far ∙ ap greatest_atc (sym (decided-other card history request reply other)))
 hi-step card history (Queued pan psn command) so_far =
     cond_both (has_numbers card pan psn) (with_command command (scripts_of card history)) (scripts_of card history)
-    (λ after. after.hi ≡ greatest (decided card (history ++ Queued pan psn command ∷ [])))
-    (λ its. so_far ∙ ap greatest (sym (decided-queued card history pan psn command)))
-    (λ other. so_far ∙ ap greatest (sym (decided-queued card history pan psn command)))
-hi-step card history (Status pan psn status) so_far = so_far ∙ ap greatest (sym (decided-status card history pan psn status))
+    (λ after. after.hi ≡ greatest_atc (decided card (history ++ Queued pan psn command ∷ [])))
+    (λ its. so_far ∙ ap greatest_atc (sym (decided-queued card history pan psn command)))
+    (λ other. so_far ∙ ap greatest_atc (sym (decided-queued card history pan psn command)))
+hi-step card history (Status pan psn status) so_far = so_far ∙ ap greatest_atc (sym (decided-status card history pan psn status))
 
 -- the greatest counter is that of the card's decisions
-pub scripts-hi : (card : CardName) (history : List Entry) → (scripts_of card history).hi ≡ greatest (decided card history)
+pub scripts-hi : (card : CardName) (history : List Entry) → (scripts_of card history).hi ≡ greatest_atc (decided card history)
 scripts-hi card =
-    every-history (λ history. (scripts_of card history).hi ≡ greatest (decided card history)) refl
+    every-history (λ history. (scripts_of card history).hi ≡ greatest_atc (decided card history)) refl
     (λ before entry so_far. ap (λ scripts. scripts.hi) (scripts-more card before entry) ∙ hi-step card before entry so_far)
 
 -- where the card ran commands, they are of the flight

@@ -9,7 +9,8 @@ use Rattle.issuer_base.specs.declared.entry.Entry.TheVariants.{Decided, Queued, 
 use Rattle.issuer_base.specs.ChipData.{is_arqc}
 use Rattle.issuer_base.specs.ScriptCommand.{is_command}
 use Rattle.script_queue.specs.CommandQueue.{TakesOneMore}
-use Rattle.card_history.specs.Records.{CardName, card_of, named, greatest, IsBelowBy}
+use Rattle.issuer_base.specs.CardNames.{CardName, named}
+use Rattle.card_history.specs.Records.{card_of, greatest_atc, IsBelowBy}
 use Rattle.card_history.specs.Scripts.{waiting, scripts_of}
 use Rattle.card_history.specs.Turns.{decided_for}
 
@@ -38,7 +39,7 @@ pub record IsLegalDecision (grounds : Grounds) (shard : ℕ) (before : List Entr
   -- no record decides this card and transaction counter
   pub unrecorded : All (λ decision. decision.request.atc ≢ request.atc) (decided_for request before)
   -- the transaction counter isn't below the card's window
-  pub in_window : IsBelowBy grounds.window (greatest (decided_for request before)) request.atc → ⊥
+  pub in_window : IsBelowBy grounds.window (greatest_atc (decided_for request before)) request.atc → ⊥
   pub is_the_issuers_reply : grounds.IsReply before request reply
 
 -- a command is a valid successor: it is for one of the shard's cards, the host sends such commands, and the card's

@@ -8,16 +8,8 @@ use Rattle.issuer_base.specs.declared.limits.TheConstants.{WINDOW}
 use Rattle.issuer_base.specs.declared.request.Request.{Request}
 use Rattle.issuer_base.specs.declared.entry.Entry.{Entry}
 use Rattle.issuer_base.specs.declared.entry.Entry.TheVariants.{Decided, Queued, Status}
+use Rattle.issuer_base.specs.CardNames.{CardName, named}
 use Rattle.card_history.specs.declared.decision.Decision.{Decision}
-
--- a card is named by its primary account number and its sequence number: EMV 4.3 Book 3 Annex A, tags 5A and 5F34
-pub record CardName : Type 0 where
-  pub pan : List ℕ
-  pub psn : ℕ
-
--- the card with these numbers
-abbrev pub named : List ℕ → ℕ → CardName
-named pan psn = record { pan = pan; psn = psn }
 
 -- the card that a request is of
 abbrev pub card_of : Request → CardName
@@ -52,10 +44,10 @@ abbrev pub decided : CardName → List Entry → List Decision
 decided card history = decided_from 0 card history
 
 -- the greatest ATC among these decisions, or none
-abbrev pub greatest : List Decision → Option ℕ
-greatest [] = None
-greatest (decision ∷ decisions) =
-    Some (option_map_or (λ counter. max decision.request.atc counter) (greatest decisions) decision.request.atc)
+abbrev pub greatest_atc : List Decision → Option ℕ
+greatest_atc [] = None
+greatest_atc (decision ∷ decisions) =
+    Some (option_map_or (λ counter. max decision.request.atc counter) (greatest_atc decisions) decision.request.atc)
 
 -- an ATC is below a window of so many ATCs if the greatest ATC is so many or more above it
 abbrev pub IsBelowBy : ℕ → Option ℕ → ℕ → Type 0
@@ -64,7 +56,7 @@ IsBelowBy window (Some top) counter = counter + window ≤ top
 
 -- an ATC is below the window if the greatest ATC is 256 or more above it
 abbrev pub IsBelow : Option ℕ → ℕ → Type 0
-IsBelow greatest counter = IsBelowBy WINDOW greatest counter
+IsBelow greatest_atc counter = IsBelowBy WINDOW greatest_atc counter
 
 -- the commands that were queued for a card, oldest first
 abbrev pub queue : CardName → List Entry → List Command

@@ -6,7 +6,8 @@ use Rattle.issuer_base.specs.declared.request.Request.{Request}
 use Rattle.issuer_base.specs.declared.answer.Reply.{Reply}
 use Rattle.issuer_base.specs.declared.entry.Entry.{Entry}
 use Rattle.issuer_base.specs.declared.entry.Entry.TheVariants.{Decided}
-use Rattle.card_history.specs.Records.{CardName, is_of, queue}
+use Rattle.issuer_base.specs.CardNames.{CardName}
+use Rattle.card_history.specs.Records.{is_of, queue}
 use Rattle.card_history.specs.Scripts.{scripts_of, batch_of, first_of}
 
 -- the record at this index decided a request of the card, and these commands went with its reply, the first of them

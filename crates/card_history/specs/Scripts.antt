@@ -13,7 +13,8 @@ use Rattle.cvr_settle.specs.declared.settlement.Settled.TheVariants.{Ran, Nothin
 use Rattle.cvr_settle.specs.Settlement.{settled}
 use Rattle.script_queue.specs.CommandQueue.{CommandQueue}
 use Rattle.script_queue.specs.ScriptTemplate.{fitting_front}
-use Rattle.card_history.specs.Records.{CardName, is_of, has_numbers}
+use Rattle.issuer_base.specs.CardNames.{CardName}
+use Rattle.card_history.specs.Records.{is_of, has_numbers}
 
 -- a card's scripts: all commands that were queued for it, the oldest first, the greatest decided ATC, how many of the
 -- commands are done, the batch in flight, and whether no command is sent any more

@@ -11,23 +11,24 @@ use Rattle.issuer_base.specs.declared.command.Command.{Command}
 use Rattle.issuer_base.specs.declared.entry.Entry.TheVariants.{Decided, Queued as IsQueued, Status as IsStatus}
 use Rattle.card_history.specs.declared.decision.Decision.{Decision}
 use Rattle.script_queue.specs.CommandQueue.{TakesOneMore}
-use Rattle.card_history.specs.Records.{CardName, decided, card_of, greatest, IsBelow}
+use Rattle.issuer_base.specs.CardNames.{CardName}
+use Rattle.card_history.specs.Records.{decided, card_of, greatest_atc, IsBelow}
 use Rattle.card_history.specs.Scripts.{waiting, scripts_of}
 
 -- the request's ATC is in the window of these decisions, and none of them has it
 pub record IsUnused (decisions : List Decision) (request : Request) : Type 0 where
-  pub in_window : IsBelow (greatest decisions) request.atc → ⊥
+  pub in_window : IsBelow (greatest_atc decisions) request.atc → ⊥
   pub unrecorded : All (λ decision. decision.request.atc ≢ request.atc) decisions
 
 -- the request's ATC is in the window, and this decision has it
 pub record IsUsed (decisions : List Decision) (request : Request) (decision : Decision) : Type 0 where
-  pub in_window : IsBelow (greatest decisions) request.atc → ⊥
+  pub in_window : IsBelow (greatest_atc decisions) request.atc → ⊥
   pub recorded : Contains decisions decision
   pub same_counter : decision.request.atc ≡ request.atc
 
 -- the request's ATC is below the window of this greatest ATC
 pub record IsTooOld (decisions : List Decision) (request : Request) (top : ℕ) : Type 0 where
-  pub greatest_is : greatest decisions ≡ Some top
+  pub greatest_is : greatest_atc decisions ≡ Some top
   pub below : request.atc + WINDOW ≤ top
 
 -- the decisions of the request's card in the shard's history

@@ -1,7 +1,7 @@
 //! The law of every history.
 ghost use Rattle.std.specs.Prelude.{List};
 ghost use Rattle.issuer_base.specs.declared.entry.Entry.{Entry};
-ghost use Rattle.card_history.specs.Records.{CardName};
+ghost use Rattle.issuer_base.specs.CardNames.{CardName};
 ghost use Rattle.card_history.specs.ScriptOrder.{AreInOrder};
 
 /// After every history, each batch that went with a reply to a card is a part of its queue without a gap; it begins at

@@ -1,11 +1,11 @@
-//! The cryptograms of many requests at once: requests of another program, two of them with AES, in batches of several
-//! sizes. The program was compared with OpenSSL.
+//! The checks of many cryptograms at once: requests of another program, in batches of several sizes, with blanks between
+//! them. The program was compared with OpenSSL.
 
-use arrayvec::ArrayVec;
 use chip_request::{LineKind, read_line, read_request};
-use cryptogram_lanes::{KeyedRequest, expected, holds};
+use cryptogram_in::{DesChecks, input};
 use des_block::Key16;
-use std::alloc::Global;
+use issuer_base::{Request, Suite};
+use retail_mac::mac;
 use std::test::Fail;
 
 /// The card's key, the request's line, the cryptogram.
@@ -52,60 +52,62 @@ const REQUESTS: [(u128, &[u8], u64); 8] = [
     ),
 ];
 
-/// The request of a row with its card's key.
-fn entry(row: usize) -> Result<KeyedRequest, Fail> {
-    let (key, line, _) = REQUESTS[row % 8];
+/// The request of a row.
+fn request(row: usize) -> Result<Request, Fail> {
+    let (_, line, _) = REQUESTS[row % 8];
     let Ok(LineKind::Ask(objects)) = read_line(line) else {
         return Err(Fail::from("a line of another form"));
     };
     let Ok(request) = read_request(objects.as_slice()) else {
         return Err(Fail::from("a refused request"));
     };
-    Ok(KeyedRequest {
-        suite: request.suite(),
-        key: Key16(key.to_be_bytes()),
-        request,
-    })
+    Ok(request)
 }
 
-/// A batch of `count` requests, row after row. At the index `wrong` the key is another card's.
-fn batch(alloc: Global, count: usize, wrong: usize) -> Result<Vec<KeyedRequest>, Fail> {
-    let mut requests = Vec::new(alloc);
-    for i in 0..count {
-        let mut keyed = entry(i)?;
-        if i == wrong {
-            keyed.key = Key16([7; 16]);
-        }
-        if requests.push(keyed).is_err() {
-            return Err(Fail::from("no memory"));
-        }
-    }
-    Ok(requests)
+/// The key of a row's card.
+fn key_of(row: usize) -> Key16 {
+    Key16(REQUESTS[row % 8].0.to_be_bytes())
 }
 
-/// The expected cryptograms of a batch, and whether each request has its own.
-fn answers(
-    requests: &[KeyedRequest],
-) -> Result<(ArrayVec<[u8; 8], 128>, ArrayVec<bool, 128>), Fail> {
-    if requests.len() > 128 {
+/// Whether a place of a batch has a blank: each third one, and each whose row is of AES.
+fn is_blank(place: usize, request: &Request) -> bool {
+    place % 3 == 2 || request.suite() == Suite::Aes
+}
+
+/// The checks of a batch of `count` rows, one after another. At the place `wrong` the key is another card's.
+fn checks(count: usize, wrong: usize) -> Result<DesChecks, Fail> {
+    if count > 128 {
         return Err(Fail::from("a batch of more than 128"));
     }
-    Ok((expected(requests), holds(requests)))
+    let mut checks = DesChecks::new();
+    for place in 0..count {
+        let request = request(place)?;
+        if is_blank(place, &request) {
+            checks.push_blank();
+        } else if place == wrong {
+            checks.push(Key16([7; 16]), &request);
+        } else {
+            checks.push(key_of(place), &request);
+        }
+    }
+    Ok(checks)
 }
 
-// With 15 and with 16 of triple DES, and a whole batch.
+// With few, with as many as lanes are worth, and with a whole batch. The cryptogram under the session key that comes is
+// the other program's.
 #[test]
 fn batches_have_the_cryptograms_of_another_program(rt: HostRuntime) -> Result<(), Fail> {
     for count in [0, 1, 20, 21, 65, 128] {
-        let requests = batch(rt.alloc(), count, 128)?;
-        let (cryptograms, right) = answers(requests.as_slice())?;
-        assert_eq!(rt; cryptograms.len(), count);
-        assert_eq!(rt; right.len(), count);
-        for (i, cryptogram) in cryptograms.as_slice().iter().enumerate() {
-            let (_, _, want) = REQUESTS[i % 8];
-            assert_eq!(rt; *cryptogram, want.to_be_bytes());
+        let sessions = checks(count, 128)?.right_sessions();
+        assert_eq!(rt; sessions.len(), count);
+        for (place, session) in sessions.as_slice().iter().enumerate() {
+            let request = request(place)?;
+            let (_, _, want) = REQUESTS[place % 8];
+            if let Some(session) = session {
+                assert_eq!(rt; mac(session, &input(&request)), want.to_be_bytes());
+            }
+            assert_eq!(rt; session.is_some(), !is_blank(place, &request));
         }
-        assert!(rt; right.as_slice().iter().all(|right| *right));
     }
     Ok(())
 }
@@ -113,11 +115,39 @@ fn batches_have_the_cryptograms_of_another_program(rt: HostRuntime) -> Result<()
 #[test]
 fn another_cards_key_is_found_where_it_is(rt: HostRuntime) -> Result<(), Fail> {
     for wrong in [0, 3, 63, 64, 127] {
-        let requests = batch(rt.alloc(), 128, wrong)?;
-        let (_, right) = answers(requests.as_slice())?;
-        assert_eq!(rt; right.len(), 128);
-        for (i, right) in right.as_slice().iter().enumerate() {
-            assert_eq!(rt; *right, i != wrong);
+        let sessions = checks(128, wrong)?.right_sessions();
+        assert_eq!(rt; sessions.len(), 128);
+        for (place, session) in sessions.as_slice().iter().enumerate() {
+            let is_right = place != wrong && !is_blank(place, &request(place)?);
+            assert_eq!(rt; session.is_some(), is_right);
+        }
+    }
+    Ok(())
+}
+
+/// The checks of 128 requests of the first row. The last byte of the cryptogram at the place `wrong` is another.
+fn checks_with_a_wrong_byte(wrong: usize) -> Result<DesChecks, Fail> {
+    let mut checks = DesChecks::new();
+    for place in 0..128 {
+        let mut parts = *request(0)?.parts();
+        if place == wrong {
+            parts.ac[7] ^= 1;
+        }
+        let Some(request) = Request::new(parts) else {
+            return Err(Fail::from("a refused request"));
+        };
+        checks.push(key_of(0), &request);
+    }
+    Ok(checks)
+}
+
+#[test]
+fn a_wrong_last_byte_is_found_in_each_lane(rt: HostRuntime) -> Result<(), Fail> {
+    for wrong in [0, 64, 127] {
+        let sessions = checks_with_a_wrong_byte(wrong)?.right_sessions();
+        assert_eq!(rt; sessions.len(), 128);
+        for (place, session) in sessions.as_slice().iter().enumerate() {
+            assert_eq!(rt; session.is_some(), place != wrong);
         }
     }
     Ok(())

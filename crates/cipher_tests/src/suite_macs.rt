@@ -2,7 +2,7 @@
 
 use des_block::Key16;
 use issuer_base::Suite;
-use suite_mac::{MacKey, SuiteRun};
+use key_derive::{MacKey, SuiteRun};
 
 /// Suite, key, text, MAC.
 const MACS: [(Suite, u128, &[u8], u64); 6] = [

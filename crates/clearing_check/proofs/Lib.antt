@@ -1,2 +1,7 @@
 -- The lemmas of this crate.
 pub mod Finding
+pub mod FirstPlace
+pub mod Numbers
+pub mod Blocks
+pub mod Opens
+pub mod OneLine

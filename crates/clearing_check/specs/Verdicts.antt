@@ -10,8 +10,8 @@ use Rattle.issuer_base.specs.declared.answer.Reply.{Reply}
 use Rattle.card_history.specs.Records.{card_of}
 use Rattle.issuer_setup.specs.CardList.{number_of}
 use Rattle.issuer_setup.specs.IssuerSetup.{Setup}
-use Rattle.filed_records.specs.declared.filed.Filed.{Filed}
-use Rattle.filed_records.specs.Records.{has_atc, certify}
+use Rattle.clearing_check.specs.declared.filed.Filed.{Filed}
+use Rattle.clearing_check.specs.Records.{has_atc, certify}
 use Rattle.clearing_check.specs.declared.verdict.Verdict.{Verdict}
 use Rattle.clearing_check.specs.declared.verdict.Verdict.TheVariants.{Lone, Differs, Declined, Against, Certified}
 use Rattle.clearing_check.specs.declared.presented.Presented.{Presented}

@@ -2,12 +2,13 @@
 ghost use Rattle.std.specs.Prelude.{◌≡◌, ◌++◌, [], length, slice_get, option_map, IfOk, OnOk, OnErr};
 ghost use Rattle.std.specs.List.{list_any, count_by};
 ghost use Rattle.std.specs.Option.{option_to_list};
-ghost use Rattle.filed_records.specs.Records.{has_atc, is_certified, opens, place_of};
+ghost use Rattle.clearing_check.specs.Records.{has_atc, is_certified, opens, place_of};
 ghost use Rattle.clearing_check.specs.Verdicts.{filed_of, verdict, after_line};
 
+use crate::filed::Filed;
+use crate::filed_records::FiledRecords;
 use crate::presented::present;
 use crate::verdict::{Verdict, verdict_by};
-use filed_records::{Filed, FiledRecords};
 use issuer_base::{Entry, NoMemory};
 use issuer_setup::Issuer;
 use std::alloc::Global;
@@ -23,7 +24,7 @@ pub struct Book {
 
 impl Model for Book {
     ghost use Rattle.std.specs.Prelude.{List};
-    ghost use Rattle.filed_records.specs.declared.filed.Filed.{Filed};
+    ghost use Rattle.clearing_check.specs.declared.filed.Filed.{Filed};
 
     ghost Value = { List Filed };
 

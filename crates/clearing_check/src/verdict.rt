@@ -4,7 +4,7 @@ ghost use Rattle.std.specs.Prelude.{◌≡◌};
 ghost use Rattle.clearing_check.specs.ClearingLine.{is_tc, is_aac, is_final};
 ghost use Rattle.clearing_check.specs.Verdicts.{agrees, verdict_by};
 
-use filed_records::Filed;
+use crate::filed::Filed;
 use issuer_base::{Refusal, Request};
 
 /// The verdict on a clearing line. `shard` and `place` are where the decided record is: its shard, and its index in the

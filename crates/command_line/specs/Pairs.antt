@@ -2,20 +2,19 @@
 use Rattle.std.specs.Prelude.{◌≡◌, ◌⊎◌, ℕ, ◌*◌, ◌%◌, nat_le, Bool, true, false, not, ◌==◌, ◌&&◌, if◌then◌else◌}
 use Rattle.std.specs.Prelude.{List, [], ◌∷◌, length, drop, slice_get, Option, Some, None, codes}
 use Rattle.std.specs.Fmt.{decimal}
-use Rattle.std.specs.Option.{option_map}
 use Rattle.issuer_base.specs.declared.limits.TheConstants.{MAX_CARDS, MAX_CARD_REQUESTS, MAX_STEPS}
 use Rattle.command_line.specs.declared.words.Command.{Command}
 use Rattle.command_line.specs.declared.words.Command.TheVariants.{Serve, Show, World, Fill, Pin, Clear, Export, Standby}
 use Rattle.command_line.specs.declared.pin_words.PinWords.{PinWords}
-use Rattle.command_line.specs.declared.words.Requests.{Requests}
+use Rattle.command_line.specs.declared.words.ServeWords.{ServeWords}
 use Rattle.command_line.specs.declared.words.Task.{Task}
-use Rattle.command_line.specs.declared.words.Task.TheVariants.{Host, Play, Fill as FillTask, Pin as PinTask}
+use Rattle.command_line.specs.declared.words.Task.TheVariants.{Serve as ServeTask, Show as ShowTask, Play, Fill as FillTask, Pin as PinTask}
 use Rattle.command_line.specs.declared.words.Task.TheVariants.{Clear as ClearTask}
 use Rattle.command_line.specs.declared.words.Task.TheVariants.{Export as ExportTask, Standby as StandbyTask}
 use Rattle.command_line.specs.Command.{Pair, values_of, is_one_of, serve_options, callers_option, show_options}
 use Rattle.command_line.specs.Command.{world_options, fill_options, pin_options, clear_options, PinOrder, IsPin}
 use Rattle.command_line.specs.Command.{RequestFile, IsGroup, IsServe, IsShow, IsWorld, IsFill, IsClear}
-use Rattle.command_line.specs.Command.{export_options, standby_options, IsExport, IsStandby, IsCommand}
+use Rattle.command_line.specs.Command.{export_options, standby_options, IsExport, IsStandby}
 
 -- whether a word is a value
 abbrev pub is_value : List ℕ → Bool
@@ -100,8 +99,8 @@ Asks Export words = (config journal : List ℕ) × IsExport words config journal
 Asks Standby words = (config feed journal : List ℕ) × IsStandby words config feed journal
 
 -- the request file that the code names
-abbrev pub request_file : Requests → RequestFile
-request_file requests = record { name = requests.file.now; callers = requests.callers }
+abbrev pub request_file : ServeWords → RequestFile
+request_file words = record { name = words.requests.now; callers = words.callers }
 
 -- the order that the code names
 abbrev pub order_of : PinWords → PinOrder
@@ -116,7 +115,8 @@ order_of words = record {
 
 -- the words ask for this
 abbrev pub IsTask : List (List ℕ) → Task → Type 0
-IsTask words (Host names) = IsCommand words names.config.now (option_map request_file names.requests) names.journal.now
+IsTask words (ServeTask names) = IsServe words names.config.now (request_file names) names.journal.now
+IsTask words (ShowTask names) = IsShow words names.config.now names.journal.now
 IsTask words (Play size) = IsWorld words size.cards size.steps size.seed
 IsTask words (FillTask texts) = IsFill words texts.dol.items texts.data.items
 IsTask words (PinTask named) = IsPin words (order_of named)

@@ -6,5 +6,6 @@ mod words;
 
 pub use pin_words::PinWords;
 pub use words::{
-    ClearWords, DolTexts, ExportWords, Names, Requests, StandbyWords, Task, WorldSize, read_words,
+    ClearWords, DolTexts, ExportWords, ServeWords, ShowWords, StandbyWords, Task, WorldSize,
+    read_words,
 };

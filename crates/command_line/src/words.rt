@@ -9,7 +9,8 @@ ghost use Rattle.command_line.specs.Pairs.{value_in, is_within, AreWordsOf, Give
 ghost use Rattle.command_line.specs.declared.words.Command.{Command};
 ghost use Rattle.command_line.specs.declared.words.Command.TheVariants.{Serve, Show, World, Fill, Clear};
 ghost use Rattle.command_line.specs.declared.words.Command.TheVariants.{Export, Standby};
-ghost use Rattle.command_line.specs.declared.words.Task.TheVariants.{Host, Play, Fill as FillTask};
+ghost use Rattle.command_line.specs.declared.words.Task.TheVariants.{Serve as ServeTask, Show as ShowTask};
+ghost use Rattle.command_line.specs.declared.words.Task.TheVariants.{Play, Fill as FillTask};
 ghost use Rattle.command_line.specs.declared.words.Task.TheVariants.{Clear as ClearTask};
 ghost use Rattle.command_line.specs.declared.words.Task.TheVariants.{Export as ExportTask, Standby as StandbyTask};
 
@@ -42,8 +43,10 @@ pub(crate) enum Command {
 /// What the program does.
 #[derive(Drop)]
 pub enum Task<'a> {
-    /// It answers request lines or shows cards, over the journals of a configuration.
-    Host(Names<'a>),
+    /// It answers the lines of a request file, over the journals of a configuration.
+    Serve(ServeWords<'a>),
+    /// It shows the cards of a configuration, as its journals say.
+    Show(ShowWords<'a>),
     /// It plays a world of its own.
     Play(WorldSize),
     /// It fills a DOL from data objects.
@@ -58,24 +61,26 @@ pub enum Task<'a> {
     Standby(StandbyWords<'a>),
 }
 
-/// The names in the words of a command over journals.
+/// What the words of the command to serve say.
 #[derive(Clone, Copy)]
-pub struct Names<'a> {
+pub struct ServeWords<'a> {
     /// The name of the configuration.
     pub config: &'a str,
-    /// The request file, where the command is to serve.
-    pub requests: Option<Requests<'a>>,
+    /// The name of the request file.
+    pub requests: &'a str,
     /// The prefix of the journals' names.
     pub journal: &'a str,
+    /// How many callers answer the lines, 1 to 16.
+    pub callers: u8,
 }
 
-/// What the words of the command to serve say of the request lines.
+/// The names in the words of the command to show cards.
 #[derive(Clone, Copy)]
-pub struct Requests<'a> {
-    /// The name of their file.
-    pub file: &'a str,
-    /// How many callers answer them, 1 to 16.
-    pub callers: u8,
+pub struct ShowWords<'a> {
+    /// The name of the configuration.
+    pub config: &'a str,
+    /// The prefix of the journals' names.
+    pub journal: &'a str,
 }
 
 /// The numbers in the words of the command to play a world.
@@ -135,8 +140,8 @@ pub fn read_words(words: &Words) -> Option<Task<'_>>
     ensures other { IfNone result (IsNoCommand words.now) }
 {
     match command_in(words)? {
-        Command::Serve => Some(Task::Host(serve_names(words)?)),
-        Command::Show => Some(Task::Host(show_names(words)?)),
+        Command::Serve => Some(Task::Serve(serve_words(words)?)),
+        Command::Show => Some(Task::Show(show_words(words)?)),
         Command::World => Some(Task::Play(world_size(words)?)),
         Command::Fill => Some(Task::Fill(dol_texts(words)?)),
         Command::Pin => Some(Task::Pin(pin_words(words)?)),
@@ -161,20 +166,21 @@ fn command_in(words: &Words) -> Option<Command>
     Some(command)
 }
 
-/// The names in the words of the command to serve.
-fn serve_names(words: &Words) -> Option<Names<'_>>
+/// What the words of the command to serve say.
+fn serve_words(words: &Words) -> Option<ServeWords<'_>>
     requires { AreWordsOf Serve words.now }
-    ensures names { IfSome result (λ names. IsTask words.now (Host names)) }
+    ensures names { IfSome result (λ names. IsTask words.now (ServeTask names)) }
     ensures none { IfNone result (Asks Serve words.now → ⊥) }
 {
     let config = value_of(words, "--config")?;
     let file = value_of(words, "--requests")?;
     let journal = value_of(words, "--journal")?;
     let callers = callers_of(words)?;
-    Some(Names {
+    Some(ServeWords {
         config,
-        requests: Some(Requests { file, callers }),
+        requests: file,
         journal,
+        callers,
     })
 }
 
@@ -205,18 +211,14 @@ fn group_of(word: &str) -> Option<u8>
 }
 
 /// The names in the words of the command to show.
-fn show_names(words: &Words) -> Option<Names<'_>>
+fn show_words(words: &Words) -> Option<ShowWords<'_>>
     requires { AreWordsOf Show words.now }
-    ensures names { IfSome result (λ names. IsTask words.now (Host names)) }
+    ensures names { IfSome result (λ names. IsTask words.now (ShowTask names)) }
     ensures none { IfNone result (Asks Show words.now → ⊥) }
 {
     let config = value_of(words, "--config")?;
     let journal = value_of(words, "--journal")?;
-    Some(Names {
-        config,
-        requests: None,
-        journal,
-    })
+    Some(ShowWords { config, journal })
 }
 
 /// The names in the words of the command to check clearing lines.

@@ -1,7 +1,7 @@
 -- The application cryptogram of a request: EMV 4.3 Book 2, section 8.1.
 use Rattle.std.specs.Prelude.{ℕ, List, [], ◌∷◌, ◌++◌}
 use Rattle.issuer_base.specs.declared.request.Parts.{Parts}
-use Rattle.suite_mac.specs.SuiteMac.{mac_of}
+use Rattle.key_derive.specs.SuiteMac.{mac_of}
 use Rattle.key_derive.specs.declared.card.CardKeys.{CardKeys}
 use Rattle.key_derive.specs.SuiteKey.{SuiteKey}
 use Rattle.key_derive.specs.SessionKey.{counter_bytes, session_of}

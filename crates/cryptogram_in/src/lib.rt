@@ -1,17 +1,21 @@
-//! A card's application cryptogram, and the check of it: EMV 4.3 Book 2, section 8.1. With AES it is this project's
-//! profile.
+//! A card's application cryptogram, and the check of it, of one request or of up to 128 at once: EMV 4.3 Book 2, section
+//! 8.1. With AES it is this project's profile.
+//!
+//! The cryptograms of many requests under triple DES are computed side by side, in lanes. No call allocates.
 #![tactic(auto)]
 
+mod checks;
 mod joined;
+mod sessions;
 
 ghost use Rattle.std.specs.Prelude.{◌≡◌, ◌↔◌, length, IsTrue};
 ghost use Rattle.key_derive.specs.SessionKey.{counter_bytes};
 ghost use Rattle.cryptogram_in.specs.Cryptogram.{input, cryptogram_under};
 
+pub use checks::{DesChecks, FEWEST_IN_LANES};
 use issuer_base::Request;
 use joined::Joined;
-use key_derive::SessionKey;
-use suite_mac::MacKey;
+use key_derive::{MacKey, SessionKey};
 
 /// The data under the application cryptogram: the ten data elements that EMV 4.3 Book 2, section 8.1.1
 /// recommends, and the whole issuer application data, which is this project's profile.
@@ -56,3 +60,6 @@ pub fn holds(session: &SessionKey, request: &Request) -> bool
 {
     expected(session, request) == request.parts().ac
 }
+
+ghost use Rattle.std.specs.Prelude.{◌≡◌, ◌≤◌, ◌↔◌, length, map, IsTrue};
+ghost use Rattle.std.specs.List.{AllZip};

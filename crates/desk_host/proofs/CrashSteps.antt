@@ -9,10 +9,10 @@ use Rattle.issuer_base.specs.declared.outside.store.Store.{Ghosts}
 use Rattle.issuer_base.proofs.Moments.{LeavesOnly-passes, LeavesOnly-then, LeavesOnly-weaker}
 use Rattle.issuer_base.proofs.ToldTwice.{BothTold-then, BothTold-weaker}
 use Rattle.issuer_setup.specs.IssuerSetup.{Setup}
-use Rattle.record_store.specs.Images.{IsKept, OnlyReads}
+use Rattle.journal_store.specs.Images.{IsKept, OnlyReads}
 use Rattle.shard_book.specs.Histories.{IsImageBetween}
 use Rattle.shard_book.specs.Shards.{IsLoadImage}
-use Rattle.one_caller.specs.Books.{Book}
+use Rattle.host_loading.specs.Books.{ShardBook}
 use Rattle.one_caller.specs.Runs.{HoldsJournal}
 use Rattle.desk_host.specs.Journals.{IsOpened}
 use Rattle.desk_host.specs.Kept.{IsRunImage, LeavesNow}
@@ -20,7 +20,7 @@ use Rattle.desk_host.specs.Left.{CrashSince, StaysAsOpened}
 use Rattle.desk_host.specs.SeenStores.{store_seen}
 
 -- a crash that comes after a run leaves an image of the last history
-pub leaves-now : (issuer : Setup) (shard : ℕ) (book : Book) (bytes : Option (List ℕ)) (disk : Option Disk)
+pub leaves-now : (issuer : Setup) (shard : ℕ) (book : ShardBook) (bytes : Option (List ℕ)) (disk : Option Disk)
     → HoldsJournal issuer shard book bytes disk
     → IfSome disk (LeavesNow issuer shard book.history)
 leaves-now issuer shard book bytes None holds = tt

@@ -6,24 +6,24 @@ use Rattle.issuer_base.specs.declared.outside.store.Store.{Ghosts}
 use Rattle.issuer_setup.specs.IssuerSetup.{Setup}
 use Rattle.line_checks.specs.Reading.{reading}
 use Rattle.shard_book.specs.declared.shard.Shard.{Shard}
-use Rattle.one_caller.specs.Books.{Book}
-use Rattle.one_caller.specs.Hosts.{Stand}
+use Rattle.host_loading.specs.Books.{ShardBook}
+use Rattle.host_loading.specs.Hosts.{Stand}
 use Rattle.one_caller.specs.OneHistory.{AreRecorded}
 use Rattle.one_caller.specs.Runs.{HasRun, LeaveBetween}
 use Rattle.one_caller.specs.Turns.{Turn}
-use Rattle.one_caller.proofs.Places.{read-within}
+use Rattle.host_loading.proofs.Places.{read-within}
 use Rattle.one_caller.proofs.Running.{has_run-more}
 
 module _ {S : Type 0} {G : Ghosts S} where
   -- one line more is answered
-  pub run-line : (issuer : Setup) (loaded : List (Shard S G)) (first : List Book) (lines : List (List ℕ))
+  pub run-line : (issuer : Setup) (loaded : List (Shard S G)) (first : List ShardBook) (lines : List (List ℕ))
       (answers : List Answer)
-      (now next : List (Shard S G)) (books : List Book) (line : List ℕ) (answer : Answer)
+      (now next : List (Shard S G)) (books : List ShardBook) (line : List ℕ) (answer : Answer)
       → HasRun issuer loaded first lines answers now books
-      → ((books : List Book) → Stand issuer now books
-      → (after : List Book) × Stand issuer next after × Turn issuer books (reading issuer line) answer after)
-      → ((books : List Book) → Stand issuer now books → LeaveBetween issuer books books now next)
-      → (after : List Book) × HasRun issuer loaded first (lines ++ line ∷ []) (answers ++ answer ∷ []) next after
+      → ((books : List ShardBook) → Stand issuer now books
+      → (after : List ShardBook) × Stand issuer next after × Turn issuer books (reading issuer line) answer after)
+      → ((books : List ShardBook) → Stand issuer now books → LeaveBetween issuer books books now next)
+      → (after : List ShardBook) × HasRun issuer loaded first (lines ++ line ∷ []) (answers ++ answer ∷ []) next after
   run-line issuer loaded first lines answers now next books line answer run turn leaves =
       let t = turn books run.stand in (
         t.0,
@@ -32,7 +32,7 @@ module _ {S : Type 0} {G : Ghosts S} where
       )
 
   -- books that shards stand for hold records alone
-  pub recorded : {issuer : Setup} {shards : List (Shard S G)} {books : List Book} → Stand issuer shards books
+  pub recorded : {issuer : Setup} {shards : List (Shard S G)} {books : List ShardBook} → Stand issuer shards books
       → AreRecorded books
   recorded {issuer} {shards} {books} stand number book is =
       let within = slice_get_within books number book is in

@@ -6,8 +6,8 @@ use Rattle.issuer_base.specs.declared.outside.store.Store.{Ghosts}
 use Rattle.issuer_setup.specs.IssuerSetup.{Setup}
 use Rattle.shard_book.specs.declared.shard.Shard.{Shard}
 use Rattle.shard_book.specs.Shards.{store_in}
-use Rattle.one_caller.specs.Books.{Book}
-use Rattle.one_caller.specs.Hosts.{AreShards, Stand}
+use Rattle.host_loading.specs.Books.{ShardBook}
+use Rattle.host_loading.specs.Hosts.{AreShards, Stand}
 use Rattle.one_caller.specs.Runs.{LeaveBetween}
 use Rattle.one_caller.proofs.Running.{Begins, run-none, holds-journal}
 use Rattle.desk_host.specs.SeenStores.{SeenStore, SeenJournals, store_seen, journals_seen, Logged}
@@ -28,9 +28,9 @@ module _ {S : Type 0} {G : Ghosts S} where
       (before : AreShards issuer loaded) (after : AreShards issuer now)
       (told : (store : S) → IfSome (G.disk store) (λ disk. G.bytes store ≡ Some disk.now.bytes))
       (journals : SeenJournals) (journals_are : journals ≡ journals_seen G olds (map store_in now)) where
-    module _ (last : List Book) (stand : Stand issuer now last)
+    module _ (last : List ShardBook) (stand : Stand issuer now last)
         (leave : LeaveBetween issuer (begins issuer prefix logs olds loaded ready).books last loaded now) where
-      keeps-journal : (shard : ℕ) (was is : Book) (old_seen seen : SeenStore)
+      keeps-journal : (shard : ℕ) (was is : ShardBook) (old_seen seen : SeenStore)
           → slice_get (begins issuer prefix logs olds loaded ready).books shard ≡ Some was
           → slice_get last shard ≡ Some is → slice_get (map (store_seen G) olds) shard ≡ Some old_seen
           → slice_get (map (store_seen G) (map store_in now)) shard ≡ Some seen
@@ -65,7 +65,7 @@ module _ {S : Type 0} {G : Ghosts S} where
                   journal-held issuer shard old_held held (G.bytes old.0) (G.bytes store.0) book.old_history
                   was.history old_log.bytes_are log.bytes_are book.journal_is;
               no_fault = book.counts.counted ∙ log.new;
-              none_told = book.untold;
+              none_reported = book.untold;
             };
             old_stays = stays-opened told old_held old.0 old_here.0 old_log read.bytes_are read.disk_is;
             old_no_fault = from.old_counts.counted ∙ old_log.new;

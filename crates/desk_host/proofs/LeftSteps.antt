@@ -16,8 +16,8 @@ use Rattle.issuer_base.proofs.ToldTwice.{BothTold-given, BothTold-weaker}
 use Rattle.issuer_setup.specs.IssuerSetup.{Setup}
 use Rattle.journal_rec.specs.Record.{IsRecord}
 use Rattle.journal_rec.specs.RecordText.{journal_text}
-use Rattle.record_store.specs.Images.{OnlyReads}
-use Rattle.record_store.proofs.ReadSoFar.{reads-none}
+use Rattle.journal_store.specs.Images.{OnlyReads}
+use Rattle.journal_store.proofs.ReadSoFar.{reads-none}
 use Rattle.shard_book.specs.declared.replay.LoadFault.{LoadFault}
 use Rattle.shard_book.specs.declared.replay.LoadFault.TheVariants.{OldLine, OldRecord, BadLine, BadRecord}
 use Rattle.shard_book.specs.declared.replay.LoadFault.TheVariants.{StoreFault, NoMemory}
@@ -26,8 +26,8 @@ use Rattle.shard_book.specs.declared.shard.Shard.{Shard}
 use Rattle.shard_book.specs.Shards.{store_in, IsCutToText, IsFailedImage, IsLoadImage, IsMigrated, IsTakenFor}
 use Rattle.shard_book.specs.Versions.{HasText, IsPartOf}
 use Rattle.shard_book.specs.Loads.{IsNotLoaded}
-use Rattle.one_caller.specs.Loading.{AreOnlyRead, ComeBack, ComeBackBy, ComeBackTogether, IsGivenBack, IsLeftByLoad}
-use Rattle.one_caller.proofs.Loads.{given-back}
+use Rattle.host_loading.specs.Loading.{AreOnlyRead, ComeBack, ComeBackBy, ComeBackTogether, IsGivenBack, IsLeftByLoad}
+use Rattle.host_loading.proofs.Loads.{given-back}
 use Rattle.desk_host.specs.SeenStores.{Logged, SeenStore, store_seen, journals_seen}
 use Rattle.desk_host.specs.Journals.{old_name, journal_name, IsOpened, AreOpened, IsReady}
 use Rattle.desk_host.specs.Left.{GoesOnMigrating, IsSparedImage, KeepsLines, LeavesJournal, LeaveJournals}

@@ -10,3 +10,4 @@ pub mod LeftSteps
 pub mod LoadingSteps
 pub mod LoadedLaws
 pub mod ShowSteps
+pub mod Joined

@@ -4,7 +4,7 @@ use Rattle.issuer_base.specs.declared.outside.store.Store.{Ghosts}
 use Rattle.issuer_setup.specs.IssuerSetup.{Setup}
 use Rattle.shard_book.specs.declared.shard.Shard.{Shard}
 use Rattle.shard_book.proofs.OwnDecisions.{legal-then}
-use Rattle.one_caller.specs.Hosts.{AreShards}
+use Rattle.host_loading.specs.Hosts.{AreShards}
 use Rattle.one_caller.proofs.OneRun.{run-one_history}
 use Rattle.one_caller.proofs.Running.{begins-legal}
 use Rattle.desk_host.specs.SeenStores.{Logged}

@@ -16,8 +16,8 @@ use Rattle.shard_book.specs.declared.replay.LoadFault.TheVariants.{OldLine, OldR
 use Rattle.shard_book.specs.declared.replay.LoadFault.TheVariants.{StoreFault, NoMemory}
 use Rattle.shard_book.specs.Loading.{StopsJournal, StopsText}
 use Rattle.shard_book.specs.Loads.{CountsBoth, IsNotLoaded}
-use Rattle.one_caller.specs.declared.loading.HostBack.{HostBack}
-use Rattle.one_caller.specs.Loading.{IsGivenBack, ComeBackBy}
+use Rattle.host_loading.specs.declared.loading.HostBack.{HostBack}
+use Rattle.host_loading.specs.Loading.{IsGivenBack, ComeBackBy}
 use Rattle.desk_host.specs.SeenStores.{Logged, store_seen, journals_seen}
 use Rattle.desk_host.specs.Journals.{old_name, journal_name, IsOpened, AreOpened, HasAllOpened}
 use Rattle.desk_host.specs.Loading.{CannotOpen, DeskFaults, FailsAt, GivesNoHost, HasOpenedAll, HasLoaded}

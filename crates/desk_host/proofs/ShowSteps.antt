@@ -11,15 +11,15 @@ use Rattle.issuer_base.specs.declared.outside.store.Store.{Ghosts}
 use Rattle.issuer_base.specs.declared.faults.WriteFault.{WriteFault}
 use Rattle.issuer_base.specs.Sink.{AppendsFront, WritesAll}
 use Rattle.issuer_base.proofs.ManyCalls.{AppendsFront-after, AppendsFront-more}
-use Rattle.card_history.specs.Records.{CardName}
+use Rattle.issuer_base.specs.CardNames.{CardName}
 use Rattle.issuer_setup.specs.declared.card.CardInfo.{CardInfo}
 use Rattle.issuer_setup.specs.CardList.{name_of, number_of}
 use Rattle.issuer_setup.specs.IssuerSetup.{Setup, shard_of}
 use Rattle.shard_book.specs.declared.shard.Shard.{Shard}
-use Rattle.show_text.specs.CardText.{card_text}
+use Rattle.desk_host.specs.CardText.{card_text}
 use Rattle.card_history.specs.declared.card_view.CardView.{CardView}
-use Rattle.one_caller.specs.Books.{Book, histories_of}
-use Rattle.one_caller.specs.Hosts.{AreShards, Stand}
+use Rattle.host_loading.specs.Books.{ShardBook, histories_of}
+use Rattle.host_loading.specs.Hosts.{AreShards, Stand}
 use Rattle.card_history.specs.CardViews.{card_shown}
 use Rattle.desk_host.specs.Shown.{shown_card, shown_text}
 use Rattle.desk_host.proofs.SeenSteps.{at-place}
@@ -31,7 +31,7 @@ pub writes-err : (a b : Option (List ℕ)) (result : Result (Unit {0}) WriteFaul
 writes-err a b (Ok done) piece failed front = absurd (let e : false ≡ true = failed in cc)
 writes-err a b (Err fault) piece failed front = front
 
-module _ (issuer : Setup) (books : List Book) where
+module _ (issuer : Setup) (books : List ShardBook) where
   -- one card more
   shown-suc : (cards : List CardInfo) (n : ℕ) (card : CardInfo) → slice_get cards n ≡ Some card
       → shown_text issuer books (take (suc n) cards)
@@ -88,10 +88,10 @@ shard-within issuer name some =
     ]
 
 -- what a host shows of a card is what its shard's book says
-pub shown-line : {S : Type 0} {G : Ghosts S} (issuer : Setup) (shards : List (Shard S G)) (books : List Book)
+pub shown-line : {S : Type 0} {G : Ghosts S} (issuer : Setup) (shards : List (Shard S G)) (books : List ShardBook)
     (card : CardInfo) (view : CardView)
     → AreShards issuer shards → Stand issuer shards books → 0 < issuer.shards
-    → ((book : Book) → slice_get books (shard_of issuer (name_of card)) ≡ Some book
+    → ((book : ShardBook) → slice_get books (shard_of issuer (name_of card)) ≡ Some book
     → view ≡ card_shown (name_of card) book.history)
     → card_text card.pan card.psn view ≡ shown_card issuer books card
 shown-line issuer shards books card view are stand some shows =
@@ -101,8 +101,8 @@ shown-line issuer shards books card view are stand some shows =
     let within : shard_of issuer (name_of card) < length books = omega (arith, below, count, many) in
     let book = at-place books (shard_of issuer (name_of card)) within in
     let histories : slice_get (histories_of books) (shard_of issuer (name_of card)) ≡ Some book.0.history =
-    slice_get-map (λ (b : Book). b.history) books (shard_of issuer (name_of card))
-    ∙ ap (λ (o : Option Book). option_map (λ (b : Book). b.history) o) book.1 in
+    slice_get-map (λ (b : ShardBook). b.history) books (shard_of issuer (name_of card))
+    ∙ ap (λ (o : Option ShardBook). option_map (λ (b : ShardBook). b.history) o) book.1 in
     let history = get_or_from_slice_get (histories_of books) (shard_of issuer (name_of card)) book.0.history []
     histories in
     ap (card_text card.pan card.psn) (shows book.0 book.1 ∙ ap (card_shown (name_of card)) (sym history))

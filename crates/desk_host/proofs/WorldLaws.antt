@@ -9,7 +9,7 @@ use Rattle.card_history.proofs.CommandsInOrder.{in_order}
 use Rattle.issuer_setup.specs.IssuerSetup.{Setup}
 use Rattle.journal_rec.specs.Record.{IsEntry, IsRecord}
 use Rattle.shard_book.specs.Grounds.{grounds_of}
-use Rattle.one_caller.specs.Books.{Book, histories_of}
+use Rattle.host_loading.specs.Books.{ShardBook, histories_of}
 use Rattle.one_caller.specs.OneHistory.{AreLegalBooks, AreRecorded, GoOnLegally}
 use Rattle.one_caller.proofs.LegalBooks.{legal-once}
 use Rattle.one_caller.proofs.OneRun.{on-legal}
@@ -22,8 +22,8 @@ use Rattle.desk_host.specs.Lawful.{IsLawful}
 use Rattle.desk_host.specs.Worlds.{HaveSafeWorlds}
 
 -- what is true of each book's history, and of no records, is true of the history at any number
-history-at : (books : List Book) (shard : ℕ) (P : List Entry → Type 0)
-    → ((book : Book) → slice_get books shard ≡ Some book → P book.history)
+history-at : (books : List ShardBook) (shard : ℕ) (P : List Entry → Type 0)
+    → ((book : ShardBook) → slice_get books shard ≡ Some book → P book.history)
     → P [] → P (slice_index_or (histories_of books) shard [])
 history-at [] shard P each none = none
 history-at (book ∷ books) zero P each none = each book refl
@@ -33,7 +33,7 @@ history-at (book ∷ books) (suc shard) P each none = history-at books shard P e
 legal-none : (issuer : Setup) (shard : ℕ) → IsLegalHistory (grounds_of issuer) shard []
 legal-none issuer shard place entry is = absurd (let e : None ≡ Some entry = is in cc)
 
-are-legal : (issuer : Setup) (books : List Book) → length books ≡ issuer.shards → AreLegalBooks issuer books
+are-legal : (issuer : Setup) (books : List ShardBook) → length books ≡ issuer.shards → AreLegalBooks issuer books
     → AreLegal issuer (histories_of books)
 are-legal issuer books count legal = record {
   count = length-map books (λ book. book.history) ∙ count;
@@ -43,7 +43,7 @@ are-legal issuer books count legal = record {
 }
 
 -- records are entries as the program holds them
-are-held : (books : List Book) → AreRecorded books → AreHeld (histories_of books)
+are-held : (books : List ShardBook) → AreRecorded books → AreHeld (histories_of books)
 are-held books recorded shard =
     history-at books shard (All IsEntry)
     (λ book is. All-weaker IsRecord IsEntry (λ entry record_is. record_is.held) book.history (recorded shard book is))
@@ -51,7 +51,7 @@ are-held books recorded shard =
 
 -- each world of the issuer is safe, and runs its cards' commands in order where it is genuine; and one has these
 -- histories
-safe-worlds : (issuer : Setup) (first last : List Book) → HasSoundParts issuer → length first ≡ issuer.shards
+safe-worlds : (issuer : Setup) (first last : List ShardBook) → HasSoundParts issuer → length first ≡ issuer.shards
     → length last ≡ length first
     → GoOnLegally issuer first last → AreRecorded last → HaveSafeWorlds issuer (histories_of last)
 safe-worlds issuer first last sound count more on recorded =
@@ -65,7 +65,7 @@ safe-worlds issuer first last sound count more on recorded =
     }
 
 -- books that go on legally are those of a lawful run
-pub is-lawful : (issuer : Setup) (first last : List Book) → HasSoundParts issuer → length first ≡ issuer.shards
+pub is-lawful : (issuer : Setup) (first last : List ShardBook) → HasSoundParts issuer → length first ≡ issuer.shards
     → length last ≡ length first
     → GoOnLegally issuer first last → AreRecorded last → IsLawful issuer first last
 is-lawful issuer first last sound count more on recorded = record {

@@ -5,7 +5,7 @@ use Rattle.issuer_base.specs.declared.outside.store.Store.{Ghosts}
 use Rattle.issuer_setup.specs.IssuerSetup.{Setup}
 use Rattle.shard_book.specs.declared.shard.Shard.{Shard}
 use Rattle.one_caller.specs.declared.solo.Solo.{Solo}
-use Rattle.one_caller.specs.Loading.{AreLoaded, AreOnlyRead}
+use Rattle.host_loading.specs.Loading.{AreLoaded, AreOnlyRead}
 use Rattle.desk_host.specs.SeenStores.{Logged}
 
 -- the name of a shard's file: the name that the words give, a dot, the shard's number in two decimal digits, and an

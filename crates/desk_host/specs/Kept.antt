@@ -6,7 +6,7 @@ use Rattle.issuer_setup.specs.IssuerSetup.{Setup}
 use Rattle.shard_book.specs.Grounds.{grounds_now, IsImageOf}
 use Rattle.shard_book.specs.Histories.{IsImageBetween}
 use Rattle.shard_book.specs.Shards.{IsJournalOf, IsLoadImage}
-use Rattle.one_caller.specs.Books.{Book}
+use Rattle.host_loading.specs.Books.{ShardBook}
 use Rattle.one_caller.specs.Runs.{HoldsJournal}
 use Rattle.desk_host.specs.SeenStores.{Logged, SeenStore, SeenJournals}
 use Rattle.desk_host.specs.Journals.{old_name, journal_name}
@@ -15,11 +15,11 @@ use Rattle.desk_host.specs.Left.{CrashSince, StaysAsOpened}
 -- the old journal was the text of this old history, and the journal that of the book's history, or a prefix of the text
 -- that the old one is migrated to; a torn last line may have followed in each. No fault of its store was counted or
 -- told
-pub record WasJournal (issuer : Setup) (shard : ℕ) (old_held held : Option (List ℕ)) (old : List Entry) (book : Book)
+pub record WasJournal (issuer : Setup) (shard : ℕ) (old_held held : Option (List ℕ)) (old : List Entry) (book : ShardBook)
     : Type 0 where
   pub journal_is : IsJournalOf issuer shard old_held held old book.history
   pub no_fault : book.faults ≡ 0
-  pub none_told : book.told ≡ 0
+  pub none_reported : book.reported ≡ 0
 
 -- a crash that comes now leaves an image of the history
 pub record LeavesNow (issuer : Setup) (shard : ℕ) (history : List Entry) (disk : Disk) : Type 0 where
@@ -32,7 +32,7 @@ IsRunImage issuer shard old first last opened image =
     IsLoadImage old first opened image ⊎ IsImageBetween issuer shard first last image
 
 -- the journal of a shard was that of the first book and is that of the last; the old journal stays as it was
-pub record KeepsJournal (issuer : Setup) (shard : ℕ) (old_held held : Option (List ℕ)) (first last : Book)
+pub record KeepsJournal (issuer : Setup) (shard : ℕ) (old_held held : Option (List ℕ)) (first last : ShardBook)
     (old_store store : SeenStore) : Type 0 where
   pub old : List Entry
   pub was : WasJournal issuer shard old_held held old first
@@ -46,12 +46,12 @@ pub record KeepsJournal (issuer : Setup) (shard : ℕ) (old_held held : Option (
 -- the journal of each shard, of which the desk told by the name that the words give, was that of its first book and is
 -- that of its last; each old journal stays as it was
 pub record KeepJournals (issuer : Setup) (prefix : List ℕ) (logs : Logged) (journals : SeenJournals)
-    (first last : List Book) : Type 0 where
+    (first last : List ShardBook) : Type 0 where
   pub olds_are : length journals.olds ≡ issuer.shards
   pub stores_are : length journals.stores ≡ issuer.shards
   pub first_are : length first ≡ issuer.shards
   pub last_are : length last ≡ issuer.shards
-  pub each : (shard : ℕ) (was is : Book) (old store : SeenStore)
+  pub each : (shard : ℕ) (was is : ShardBook) (old store : SeenStore)
       → slice_get first shard ≡ Some was → slice_get last shard ≡ Some is
       → slice_get journals.olds shard ≡ Some old → slice_get journals.stores shard ≡ Some store
       → KeepsJournal issuer shard (logs (old_name prefix shard)) (logs (journal_name prefix shard)) was is old store

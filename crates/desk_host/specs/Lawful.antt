@@ -1,15 +1,15 @@
 -- What is sure of every run of an issuer's host, by however many callers, whether or not it answered a line.
 use Rattle.std.specs.Prelude.{ℕ, List, [], slice_index_or}
 use Rattle.card_history.specs.OneReply.{IsOncePerCounter}
-use Rattle.card_history.specs.Records.{CardName}
+use Rattle.issuer_base.specs.CardNames.{CardName}
 use Rattle.card_history.specs.ScriptOrder.{AreInOrder}
 use Rattle.issuer_setup.specs.IssuerSetup.{Setup}
-use Rattle.one_caller.specs.Books.{Book, histories_of}
+use Rattle.host_loading.specs.Books.{ShardBook, histories_of}
 use Rattle.one_caller.specs.OneHistory.{GoOnLegally}
 use Rattle.desk_host.specs.Worlds.{HaveSafeWorlds}
 
 -- the run that began with the first books and ended with the last is lawful
-pub record IsLawful (issuer : Setup) (first last : List Book) : Type 0 where
+pub record IsLawful (issuer : Setup) (first last : List ShardBook) : Type 0 where
   -- each history is extended by legal records, each new decision the table's, and no store's fault counter fell
   pub goes_on : GoOnLegally issuer first last
   -- no counter of a card was decided twice, whether in this run or before

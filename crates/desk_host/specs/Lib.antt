@@ -8,3 +8,4 @@ pub mod Kept
 pub mod Left
 pub mod Loading
 pub mod Shown
+pub mod CardText

@@ -16,7 +16,7 @@ use Rattle.shard_book.specs.declared.replay.LoadFault.TheVariants.{OldLine, OldR
 use Rattle.shard_book.specs.declared.replay.LoadFault.TheVariants.{StoreFault as FailedStore, NoMemory as NoRoom}
 use Rattle.shard_book.specs.Loading.{StopsText}
 use Rattle.shard_book.specs.Shards.{IsJournalOf}
-use Rattle.one_caller.specs.declared.loading.HostBack.{HostBack}
+use Rattle.host_loading.specs.declared.loading.HostBack.{HostBack}
 use Rattle.desk_host.specs.declared.journals.NoHost.{NoHost}
 use Rattle.desk_host.specs.SeenStores.{Logged, SeenStore, SeenJournals, journals_seen}
 use Rattle.desk_host.specs.Journals.{old_name, journal_name, AreOpened}

@@ -7,9 +7,10 @@ ghost use Rattle.desk_host.specs.Journals.{file_name, AreOpened, HasAllOpened, I
 ghost use Rattle.desk_host.specs.Loading.{CannotOpen, ComesToNoHost, IsUnopened, is_log_fault, stop_of_load};
 
 use answer_text::Stop;
+use host_loading::{HostBack, LoadFault};
 use issuer_base::{Desk, DeskFault};
 use issuer_setup::Issuer;
-use one_caller::{HostBack, LoadFault, Solo};
+use one_caller::Solo;
 use std::alloc::{AllocError, Global};
 
 /// What the name of an old journal ends with, after the shard's number.

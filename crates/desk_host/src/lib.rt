@@ -1,7 +1,8 @@
 //! An issuer and its host from a desk: the configuration is read, the journals are opened and loaded, and the cards
-//! shown.
+//! shown, each by a printed line.
 #![tactic(auto)]
 
+mod card_line;
 mod config;
 mod journals;
 mod showing;

@@ -31,8 +31,8 @@ use Rattle.shared_shards.specs.declared.logs.LogItem.TheVariants.{Record, Fault}
 use Rattle.shared_shards.specs.declared.logs.LogHead.{LogHead}
 use Rattle.shared_shards.specs.ShardLogs.{records_of}
 use Rattle.shared_shards.specs.Turned.{log_after, turned, AddsFault, IsAdded}
-use Rattle.call_steps.specs.Decisions.{is_number, decides, decides_at, AreTied}
-use Rattle.call_steps.specs.Finishes.{is_fresh}
+use Rattle.shared_laws.specs.Decisions.{is_number, decides, decides_at, AreTied}
+use Rattle.shared_laws.specs.Finishes.{is_fresh}
 use Rattle.host_calls.proofs.Ties.{decisions-later, within-later}
 
 -- ---- which record was added

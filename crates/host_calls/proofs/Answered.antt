@@ -10,11 +10,12 @@ use Rattle.issuer_base.specs.declared.answer.Refusal.TheVariants.{Below, Taken, 
 use Rattle.issuer_base.specs.declared.entry.Entry.{Entry}
 use Rattle.issuer_base.specs.declared.request.Request.{Request}
 use Rattle.card_history.specs.declared.decision.Decision.{Decision}
-use Rattle.card_history.specs.Records.{CardName, IsBelow, card_of, decided, greatest}
+use Rattle.issuer_base.specs.CardNames.{CardName}
+use Rattle.card_history.specs.Records.{IsBelow, card_of, decided, greatest_atc}
 use Rattle.card_history.specs.Turns.{decided_for, IsUnused, IsUsed}
 use Rattle.card_history.proofs.RecordPlaces.{decided-recorded, recorded-decided}
 use Rattle.issuer_setup.specs.IssuerSetup.{Setup, shard_of}
-use Rattle.row_core.specs.Replying.{reply_to}
+use Rattle.shard_book.specs.Replying.{reply_to}
 use Rattle.shard_book.specs.Answering.{AnswersClaimed}
 use Rattle.turn_book.specs.declared.view.TurnView.{TurnView}
 use Rattle.turn_book.specs.Logs.{items_at}
@@ -23,10 +24,10 @@ use Rattle.shared_shards.specs.declared.logs.LogItem.{LogItem}
 use Rattle.shared_shards.specs.declared.logs.LogHead.{LogHead}
 use Rattle.shared_shards.specs.ShardLogs.{records_of}
 use Rattle.shared_shards.specs.Turned.{log_after, turned, DecidesInTurn}
-use Rattle.call_steps.specs.Finishes.{seen_for, is_decided_or_fault, is_by_record, IsOwn, IsOpenTo, IsRecorded}
+use Rattle.shared_laws.specs.Finishes.{seen_for, is_decided_or_fault, is_by_record, IsOwn, IsOpenTo, IsRecorded}
 use Rattle.host_calls.proofs.Added.{IsHeaded}
 use Rattle.host_calls.proofs.Closed.{records-go_on}
-use Rattle.one_caller.proofs.Places.{read-front}
+use Rattle.host_loading.proofs.Places.{read-front}
 
 -- a decision stays one of a longer history
 decided-longer : (card : CardName) (history more : List Entry) (decision : Decision) → Contains (decided card history) decision
@@ -48,7 +49,7 @@ module _ (shard : ℕ) (reply : List Entry → Request → Reply) (before : List
   won-by (Fresh at place made) after turn open_to = refl
   won-by (Kept at place made) after (used, at_is, after_is) open_to = absurd (none-used (Kept at place made) after _ after_is open_to used)
   won-by (Refused (Below top)) after (too_old, after_is) open_to =
-      absurd (open_to.in_window (subst (λ (history : List Entry). IsBelow (greatest (decided_for request history)) request.atc) (sym after_is)
+      absurd (open_to.in_window (subst (λ (history : List Entry). IsBelow (greatest_atc (decided_for request history)) request.atc) (sym after_is)
       (subst (λ (found : Option ℕ). IsBelow found request.atc) (sym too_old.greatest_is) too_old.below)))
   won-by (Refused (Taken at place)) after ((decision, used, place_is, differs), at_is, after_is) open_to =
       absurd (none-used (Refused (Taken at place)) after decision after_is open_to used)

@@ -26,9 +26,9 @@ use Rattle.shared_shards.specs.ShardLogs.{records_of, StandsForLog}
 use Rattle.shared_shards.specs.ShardSeats.{StandForLogs}
 use Rattle.shard_book.specs.Histories.{GoesOn, IsImageBetween}
 use Rattle.one_caller.specs.OneHistory.{LegallyGoesOn}
-use Rattle.call_steps.specs.Closing.{book_of, IsClosed, AreClosed, AreClaimsSettled}
-use Rattle.call_steps.specs.OpeningLogs.{AreCounted, AreRecordedIn}
-use Rattle.one_caller.proofs.Places.{read-within, read-map}
+use Rattle.shared_laws.specs.Closing.{book_of, IsClosed, AreClosed, AreClaimsSettled}
+use Rattle.shared_laws.specs.OpeningLogs.{AreCounted, AreRecordedIn}
+use Rattle.host_loading.proofs.Places.{read-within, read-map}
 use Rattle.one_caller.proofs.Running.{holds-with}
 use Rattle.host_calls.proofs.Sharing.{items-there}
 

@@ -18,8 +18,8 @@ use Rattle.shared_seats.specs.Totals.{one_if}
 use Rattle.shard_book.specs.Recorded.{IsRecorded}
 use Rattle.shared_shards.specs.declared.logs.LogItem.{LogItem}
 use Rattle.shared_shards.specs.declared.logs.LogItem.TheVariants.{Record}
-use Rattle.call_steps.specs.Decisions.{is_number, decides}
-use Rattle.call_steps.specs.OpeningLogs.{is_decided}
+use Rattle.shared_laws.specs.Decisions.{is_number, decides}
+use Rattle.shared_laws.specs.OpeningLogs.{is_decided}
 use Rattle.one_caller.proofs.Shown.{number-known}
 
 -- whether one of the records is a decision on the ATC of the card

@@ -10,7 +10,7 @@ use Rattle.claim_words.specs.declared.view.Claimed.{Claimed}
 use Rattle.claim_words.specs.declared.view.ClaimView.{ClaimView}
 use Rattle.claim_words.specs.ClaimViews.{is_pair, is_open, is_kept, claims_on, HasOpen, settled, settled_claim}
 use Rattle.claim_words.proofs.ClaimCounts.{pair_cases, pair-self, pair-other, claims-settled_other, kept-kept, kept-given_back}
-use Rattle.call_steps.specs.Finishes.{is_fresh, standing_by}
+use Rattle.shared_laws.specs.Finishes.{is_fresh, standing_by}
 use Rattle.host_calls.specs.Passes.{open_in}
 
 and_le_right : (on test : Bool) → one_if (on && test) ≤ one_if test

@@ -26,12 +26,12 @@ use Rattle.shared_shards.specs.declared.logs.LogHead.{LogHead}
 use Rattle.shared_shards.specs.ShardLogs.{records_of}
 use Rattle.shared_shards.specs.Opening.{head_with, log_with, AreJustLoaded, IsOpeningLog, AreOpeningLogs}
 use Rattle.shard_book.specs.declared.replay.LoadFault.TheVariants.{NoMemory}
-use Rattle.one_caller.specs.Loading.{AreLoaded, IsGivenBack}
-use Rattle.one_caller.proofs.Loads.{given-back, shard-of}
-use Rattle.call_steps.specs.OpeningLogs.{IsOpenedFrom, AreOpenedFrom, AreCounted, AllComeBack, is_decided}
+use Rattle.host_loading.specs.Loading.{AreLoaded, IsGivenBack}
+use Rattle.host_loading.proofs.Loads.{given-back, shard-of}
+use Rattle.shared_laws.specs.OpeningLogs.{IsOpenedFrom, AreOpenedFrom, AreCounted, AllComeBack, is_decided}
 use Rattle.host_calls.specs.RecordedCounters.{AreStanding, AreRecordedOf}
 use Rattle.host_calls.proofs.OpeningCounters.{as-decided}
-use Rattle.one_caller.proofs.Places.{read-within, read-map}
+use Rattle.host_loading.proofs.Places.{read-within, read-map}
 
 -- the two counts of a pair in a list are one
 times-alike : (card counter : ℕ) (list : List (ℕ × ℕ)) → times_claimed card counter list ≡ times card counter list

@@ -7,12 +7,13 @@ use Rattle.std.specs.Option.{option_map_or}
 use Rattle.issuer_base.specs.declared.answer.Answer.{Answer}
 use Rattle.issuer_base.specs.declared.outside.store.Store.{Ghosts}
 use Rattle.issuer_base.specs.declared.request.Request.{Request}
-use Rattle.card_history.specs.Records.{CardName, card_of}
+use Rattle.issuer_base.specs.CardNames.{CardName}
+use Rattle.card_history.specs.Records.{card_of}
 use Rattle.issuer_setup.specs.CardList.{number_of}
 use Rattle.issuer_setup.specs.IssuerSetup.{Setup, shard_of}
 use Rattle.line_checks.specs.AtHand.{card_of_order}
 use Rattle.line_checks.specs.declared.checked.CheckedOrder.{CheckedOrder}
-use Rattle.row_core.specs.Replying.{reply_to}
+use Rattle.shard_book.specs.Replying.{reply_to}
 use Rattle.shared_seats.specs.Totals.{one_if}
 use Rattle.claim_words.specs.declared.view.ClaimView.{ClaimView}
 use Rattle.claim_words.specs.ClaimViews.{HasOpen, settled}
@@ -27,8 +28,8 @@ use Rattle.shared_shards.specs.declared.logs.LogHead.{LogHead}
 use Rattle.shared_shards.specs.declared.turns.ShardTurns.{ShardTurns}
 use Rattle.shared_shards.specs.ShardSeats.{opening_in, AreTurnsOf, IsSeatOf}
 use Rattle.shared_shards.specs.Turned.{DecidesInTurn, OrdersInTurn, ShowsInTurn}
-use Rattle.call_steps.specs.Decisions.{AreTied}
-use Rattle.call_steps.specs.Finishes.{standing_by}
+use Rattle.shared_laws.specs.Decisions.{AreTied}
+use Rattle.shared_laws.specs.Finishes.{standing_by}
 use Rattle.host_calls.specs.Passes.{open_in}
 use Rattle.host_calls.proofs.Added.{IsHeaded, claimed-decides, lost-decides, order-decides, tied-turned}
 use Rattle.host_calls.proofs.Settling.{open-once, kept-settled}

@@ -17,7 +17,7 @@ use Rattle.turn_book.specs.TurnViews.{parent_view, child_view, joined, longer_lo
 use Rattle.turn_book.proofs.LogLemmas.{front_length}
 use Rattle.shared_shards.specs.declared.logs.LogItem.{LogItem}
 use Rattle.shared_shards.specs.declared.logs.LogHead.{LogHead}
-use Rattle.call_steps.specs.Decisions.{decides, decides_at, decisions_at, AreWithin, AreTied}
+use Rattle.shared_laws.specs.Decisions.{decides, decides_at, decisions_at, AreWithin, AreTied}
 
 abbrev ShardLogs : Type 0
 ShardLogs = List (Log LogItem LogHead)

@@ -7,7 +7,7 @@ use Rattle.claim_words.specs.ClaimViews.{newcomer}
 use Rattle.claim_words.specs.Seats.{cards_of, IsOf as IsSeatOfWords}
 use Rattle.turn_book.specs.TurnViews.{first_view}
 use Rattle.shared_shards.specs.ShardSeats.{opening_in, AreTurnsOf, IsSeatOf}
-use Rattle.call_steps.specs.OpeningLogs.{AreOpenedFrom, AreRecordedIn}
+use Rattle.shared_laws.specs.OpeningLogs.{AreOpenedFrom, AreRecordedIn}
 use Rattle.host_calls.specs.Passes.{claims_of, logs_of, IsFree}
 use Rattle.host_calls.specs.declared.host.Host.{Host}
 use Rattle.host_calls.specs.declared.load.Shared.{Shared}

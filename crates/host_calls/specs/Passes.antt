@@ -14,8 +14,8 @@ use Rattle.shared_shards.specs.declared.logs.LogItem.{LogItem}
 use Rattle.shared_shards.specs.declared.logs.LogHead.{LogHead}
 use Rattle.host_calls.specs.declared.host.Host.{Host}
 use Rattle.host_calls.specs.declared.pass.Pass.{Pass}
-use Rattle.call_steps.specs.declared.checked.Checked.{Checked}
-use Rattle.call_steps.specs.declared.checked.Checked.TheVariants.{Decide, Order}
+use Rattle.shared_laws.specs.declared.checked.Checked.{Checked}
+use Rattle.shared_laws.specs.declared.checked.Checked.TheVariants.{Decide, Order}
 
 -- what the pass knows of claims: its own, the ATCs that it found claimed, and those that it read from tops
 abbrev pub claims_of : Pass → ClaimView

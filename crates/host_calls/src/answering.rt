@@ -2,7 +2,7 @@
 ghost use Rattle.std.specs.Prelude.{◌≡◌, ◌<◌, length};
 ghost use Rattle.line_checks.specs.Reading.{reading};
 ghost use Rattle.shared_shards.specs.Turned.{ShowsInTurn};
-ghost use Rattle.call_steps.specs.Authorising.{Authorises, LineSeenIsAnswered};
+ghost use Rattle.shared_laws.specs.Authorising.{Authorises, LineSeenIsAnswered};
 ghost use Rattle.host_calls.specs.Passes.{claims_of, logs_of, IsFree};
 
 use crate::host::Host;

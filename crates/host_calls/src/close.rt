@@ -3,14 +3,14 @@ ghost use Rattle.std.specs.Prelude.{◌≡◌, ℕ};
 ghost use Rattle.claim_words.specs.ClaimViews.{claims_on, is_kept};
 ghost use Rattle.shared_seats.specs.SeatNames.{IsWhole};
 ghost use Rattle.shared_shards.specs.ShardSeats.{opening_in};
-ghost use Rattle.call_steps.specs.Closing.{AreClosed, AreItsOwn, AreClaimsSettled};
-ghost use Rattle.call_steps.specs.Decisions.{decisions_at};
+ghost use Rattle.shared_laws.specs.Closing.{AreClosed, AreItsOwn, AreClaimsSettled};
+ghost use Rattle.shared_laws.specs.Decisions.{decisions_at};
 ghost use Rattle.host_calls.specs.Passes.{claims_of, logs_of, IsFree};
 
 use crate::host::Host;
 use crate::pass::Pass;
+use host_loading::take_stores;
 use issuer_base::Store;
-use one_caller::take_stores;
 
 impl<S: Store> Host<S> {
     /// Closes the host, with a pass into which all others were joined, and returns the stores in the order of their

@@ -5,17 +5,17 @@ ghost use Rattle.claim_words.specs.Seats.{IsOf as IsSeatOfWords, cards_of, view_
 ghost use Rattle.claim_words.specs.declared.claim_words.Claim.TheVariants.{Won, Lost};
 ghost use Rattle.line_checks.specs.AtHand.{IsOrderAtHand};
 ghost use Rattle.shared_shards.specs.Turned.{OrdersInTurn};
-ghost use Rattle.call_steps.specs.declared.checked.Checked.TheVariants.{Decide};
-ghost use Rattle.call_steps.specs.Finishes.{claims_after, is_fresh, standing_by, Finishes};
+ghost use Rattle.shared_laws.specs.declared.checked.Checked.TheVariants.{Decide};
+ghost use Rattle.shared_laws.specs.Finishes.{claims_after, is_fresh, standing_by, Finishes};
 ghost use Rattle.host_calls.specs.Passes.{claims_of, logs_of, HasClaimed, Holds, IsFree};
-ghost use Rattle.call_steps.specs.PreChecks.{HasPassed};
+ghost use Rattle.shared_laws.specs.PreChecks.{HasPassed};
 
 use crate::host::Host;
 use crate::pass::Pass;
-use call_steps::Checked;
 use claim_words::{Claim, ClaimSeat};
 use issuer_base::{Answer, Store};
 use line_checks::{CheckedOrder, CheckedRequest};
+use shared_laws::Checked;
 use std::sync::Wait;
 
 impl<S: Store> Host<S> {

@@ -3,7 +3,7 @@ ghost use Rattle.std.specs.Prelude.{◌≡◌, ◌≤◌, [], length, vec_capaci
 ghost use Rattle.issuer_base.specs.declared.limits.TheConstants.{MAX_SHARDS};
 ghost use Rattle.claim_words.specs.Seats.{cards_of};
 ghost use Rattle.shared_shards.specs.ShardSeats.{opening_in, AreTurnsOf};
-ghost use Rattle.call_steps.specs.OpeningLogs.{AreCounted, AreRecordedIn};
+ghost use Rattle.shared_laws.specs.OpeningLogs.{AreCounted, AreRecordedIn};
 
 use claim_words::ClaimWords;
 use issuer_base::Store;

@@ -15,8 +15,9 @@ mod pre_check;
 mod recorded;
 mod share;
 
-pub use call_steps::Checked;
 pub use card_history::CardView;
 pub use host::Host;
-pub use one_caller::{HostBack, LoadFault, Solo, every_run_is_one_history};
+pub use host_loading::{HostBack, LoadFault};
+pub use one_caller::{Solo, every_run_is_one_history};
 pub use pass::Pass;
+pub use shared_laws::Checked;

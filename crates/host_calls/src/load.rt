@@ -3,17 +3,17 @@ ghost use Rattle.std.specs.Prelude.{◌≡◌, ◌<◌, ◌≤◌, [], length, v
 ghost use Rattle.issuer_base.specs.declared.limits.TheConstants.{MAX_SHARDS};
 ghost use Rattle.issuer_setup.specs.IssuerSetup.{Setup};
 ghost use Rattle.shared_shards.specs.ShardSeats.{opening_in};
-ghost use Rattle.one_caller.specs.Loading.{AreLoaded, AreOnlyRead};
+ghost use Rattle.host_loading.specs.Loading.{AreLoaded, AreOnlyRead};
 ghost use Rattle.host_calls.specs.Loading.{IsFirstPass, IsShared};
-ghost use Rattle.call_steps.specs.OpeningLogs.{AllComeBack, AreOpenedFrom, HostComesBack, HostComesBackTogether};
+ghost use Rattle.shared_laws.specs.OpeningLogs.{AllComeBack, AreOpenedFrom, HostComesBack, HostComesBackTogether};
 
 use crate::host::{Host, StoreRoom};
 use crate::pass::Pass;
 use crate::recorded::list_recorded;
 use claim_words::ClaimWords;
+use host_loading::{HostBack, Lists, load_all, load_together, take_lists, take_stores};
 use issuer_base::{MAX_SHARDS, Store};
 use issuer_setup::Issuer;
-use one_caller::{HostBack, Lists, load_all, load_together, take_lists, take_stores};
 use shard_book::{LoadFault, Shard};
 use shared_shards::ShardTurns;
 use std::alloc::Global;

@@ -1,7 +1,7 @@
 //! A caller's part in a shared host, and what is still to be finished with it.
 ghost use Rattle.claim_words.specs.Seats.{view_of as claims_in};
 ghost use Rattle.turn_book.specs.Seats.{view_of as logs_in};
-ghost use Rattle.call_steps.specs.Decisions.{AreTied};
+ghost use Rattle.shared_laws.specs.Decisions.{AreTied};
 
 use claim_words::ClaimSeat;
 use shared_shards::ShardSeat;

@@ -4,17 +4,17 @@ ghost use Rattle.std.specs.Result.{result_map_both};
 ghost use Rattle.line_checks.specs.LookedUp.{IsLookUp};
 ghost use Rattle.line_checks.specs.Reading.{reading};
 ghost use Rattle.host_calls.specs.Passes.{claims_of, logs_of, IsFree, Holds};
-ghost use Rattle.call_steps.specs.PreChecks.{HasPassed, ChecksRequest, IsAskedBy, PreChecks};
+ghost use Rattle.shared_laws.specs.PreChecks.{HasPassed, ChecksRequest, IsAskedBy, PreChecks};
 ghost use Rattle.claim_words.specs.declared.claim_words.Claim.{Claim};
 ghost use Rattle.claim_words.specs.declared.claim_words.Claim.TheVariants.{Won};
-ghost use Rattle.call_steps.specs.declared.checked.Checked.TheVariants.{Decide};
+ghost use Rattle.shared_laws.specs.declared.checked.Checked.TheVariants.{Decide};
 
 use crate::host::Host;
 use crate::pass::Pass;
-use call_steps::Checked;
 use claim_words::Claim;
 use issuer_base::{Refusal, Store, WINDOW};
-use line_checks::{self, CheckedRequest, Sought, check_line};
+use line_checks::{self, CheckedRequest, LookedUp, check_line};
+use shared_laws::Checked;
 
 impl<S: Store> Host<S> {
     /// Checks a line, without its newline, as far as that needs no shard. It returns what the line asks of a card of
@@ -34,8 +34,8 @@ impl<S: Store> Host<S> {
         ensures held { MatchResult result (Holds self.now pass.new) (λ _. IsFree self.now pass.new) }
     {
         let found = match check_line(&self.issuer, line)? {
-            line_checks::Checked::Decide(found) => found,
-            line_checks::Checked::Order(found) => return Ok(Checked::Order(found)),
+            line_checks::CheckedLine::Decide(found) => found,
+            line_checks::CheckedLine::Order(found) => return Ok(Checked::Order(found)),
         };
         let claim = self.claim(pass, &found)?;
         Ok(Checked::Decide { found, claim })
@@ -45,7 +45,7 @@ impl<S: Store> Host<S> {
     pub fn pre_check_found(
         &self,
         pass: &mut Pass,
-        found: &Result<Sought, Refusal>,
+        found: &Result<LookedUp, Refusal>,
     ) -> Result<Checked, Refusal>
         requires { IsFree self.now pass.old × ((line : List ℕ) × IsLookUp self.now.issuer line found.now) }
 
@@ -60,8 +60,8 @@ impl<S: Store> Host<S> {
         ensures held { MatchResult result (Holds self.now pass.new) (λ _. IsFree self.now pass.new) }
     {
         let sought = match found {
-            Ok(Sought::Request(sought)) => sought,
-            Ok(Sought::Order(found)) => return Ok(Checked::Order(found.copy())),
+            Ok(LookedUp::Request(sought)) => sought,
+            Ok(LookedUp::Order(found)) => return Ok(Checked::Order(found.copy())),
             Err(refusal) => return Err(*refusal),
         };
         let found = sought.check(&self.issuer)?;

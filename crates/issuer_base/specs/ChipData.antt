@@ -14,6 +14,10 @@ is_bcd byte = nat_le (byte / 16) 9 && nat_le (byte % 16) 9
 abbrev pub is_core_identifier : ℕ → Bool
 is_core_identifier byte = byte == 0xA5 || byte == 0xA6
 
+-- the suite that a common core identifier names
+unfoldable pub suite_named : ℕ → Option Suite
+suite_named identifier = if identifier == 0xA5 then Some TripleDes else if identifier == 0xA6 then Some Aes else None
+
 -- the profile of the issuer application data: 0F, a common core identifier, and 0F before the discretionary data
 unfoldable pub has_profile : List ℕ → Bool
 has_profile iad =

@@ -8,3 +8,4 @@ pub mod OutsideFaults
 pub mod Sink
 pub mod Desk
 pub mod Stores
+pub mod CardNames

@@ -3,6 +3,8 @@ ghost use Rattle.std.specs.Prelude.{◌≡◌};
 ghost use Rattle.std.specs.List.{list_all};
 ghost use Rattle.issuer_base.specs.ChipData.{is_bcd, is_core_identifier, has_profile};
 
+use crate::request::Suite;
+
 /// Whether both nibbles of the byte are decimal digits: EMV 4.3 Book 3, section 4.3, format n.
 #[tactic(auto, unfolding(crate::specs::ChipData::is_bcd))]
 pub fn is_decimal(byte: u8) -> bool
@@ -30,5 +32,5 @@ pub fn has_profile(iad: &[u8]) -> bool
 fn is_core_identifier(byte: u8) -> bool
     ensures { result ≡ is_core_identifier byte }
 {
-    matches!(byte, 0xA5 | 0xA6)
+    Suite::of(byte).is_some()
 }

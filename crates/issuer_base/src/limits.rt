@@ -73,4 +73,4 @@ pub const MAX_STORE_BYTES: u64 = 1 << 62;
 pub const MAX_UNSYNCED_BYTES: usize = 65_536;
 
 /// How many faults of its store a shard reports at most; it counts no further.
-pub const MAX_FAULTS_TOLD: u64 = 1 << 62;
+pub const MAX_FAULTS_REPORTED: u64 = 1 << 62;

@@ -1,7 +1,7 @@
 //! The fields of a request, and a request whose fields have their forms.
 ghost use Rattle.std.specs.Prelude.{◌≡◌, ◌<◌, ◌↔◌, IsTrue, true};
 ghost use Rattle.std.specs.List.{list_all, flat_map};
-ghost use Rattle.issuer_base.specs.ChipData.{is_request, request_from, is_arqc, cvr, suite_of, dki, script_count, last_online, amount_value, is_bcd, decimal, digits_of};
+ghost use Rattle.issuer_base.specs.ChipData.{is_request, request_from, is_arqc, cvr, suite_named, suite_of, dki, script_count, last_online, amount_value, is_bcd, decimal, digits_of};
 
 use crate::chip_data::{are_decimal, has_profile, is_decimal};
 use crate::pan::Pan;
@@ -16,6 +16,30 @@ pub enum Suite {
 
     /// AES-128 and CMAC, by this project's profile: the identifier A6.
     Aes,
+}
+
+impl Suite {
+    /// The suite that a common core identifier names. `None` for any other byte.
+    #[tactic(auto, unfolding(crate::specs::ChipData::suite_named))]
+    pub fn of(identifier: u8) -> Option<Suite>
+        ensures { result ≡ suite_named identifier }
+    {
+        match identifier {
+            0xA5 => Some(Suite::TripleDes),
+            0xA6 => Some(Suite::Aes),
+            _ => None,
+        }
+    }
+
+    /// Whether cryptograms of this suite are checked many at once, in lanes.
+    pub fn goes_in_lanes(self) -> bool
+        ensures { IsTrue result ↔ (self ≡ Suite.TripleDes) }
+    {
+        match self {
+            Suite::TripleDes => true,
+            Suite::Aes => false,
+        }
+    }
 }
 
 /// The fields of one request for a cryptogram's check, as the terminal sends them: EMV 4.3 Book 3, Annex A.
@@ -153,10 +177,9 @@ impl Request {
     pub fn suite(&self) -> Suite
         ensures { result ≡ suite_of self.now }
     {
-        if self.fields.iad[1] == 0xA6 {
-            Suite::Aes
-        } else {
-            Suite::TripleDes
+        match Suite::of(self.fields.iad[1]) {
+            Some(suite) => suite,
+            None => unreachable!(),
         }
     }
 

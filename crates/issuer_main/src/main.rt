@@ -3,9 +3,8 @@
 
 use issuer_base::OpenGate;
 use issuer_top::{Ended, issue};
-use process_edge::{Process, StartFault};
 use std::process::ExitCode;
-use store_edge::{FileDesk, FileSink};
+use store_edge::{FileDesk, FileSink, Process, StartFault};
 
 /// The status of a run that has no output.
 const NO_OUTPUT: u8 = 4;

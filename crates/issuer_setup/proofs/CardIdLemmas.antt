@@ -9,7 +9,7 @@ use Rattle.std.specs.Int.{w64, to_le_bytes}
 use Rattle.std.specs.List.{list_any}
 use Rattle.issuer_base.specs.CardNumber.{is_pan}
 use Rattle.issuer_base.proofs.CardNumberLemmas.{length-pan, digit-pan}
-use Rattle.card_history.specs.Records.{CardName}
+use Rattle.issuer_base.specs.CardNames.{CardName}
 use Rattle.issuer_setup.specs.declared.card.CardInfo.{CardInfo}
 use Rattle.issuer_setup.specs.declared.card_id.CardId.{CardId}
 use Rattle.issuer_setup.specs.CardIds.{word_at, card_id, same_id, AreNumbersOf}

@@ -12,7 +12,7 @@ use Rattle.std.specs.List.{slice_get, list_any, position_from, AllPairs}
 use Rattle.std.specs.Option.{IfSome}
 use Rattle.issuer_base.specs.ChipData.{is_bcd}
 use Rattle.issuer_base.specs.declared.limits.TheConstants.{MAX_CARDS}
-use Rattle.card_history.specs.Records.{CardName}
+use Rattle.issuer_base.specs.CardNames.{CardName}
 use Rattle.issuer_setup.specs.declared.card.CardInfo.{CardInfo}
 use Rattle.issuer_setup.specs.CardList.{name_of, is_named, number_of, may_follow, first_bad, bad_card, AreCards}
 use Rattle.issuer_setup.proofs.Names.{name_at, is_named-own, is_named-same, is_named-other, name_at-get_or}

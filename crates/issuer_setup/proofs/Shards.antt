@@ -2,7 +2,7 @@
 use Rattle.std.proofs.Common.{◌≡◌, ℕ, ◌<◌, ◌≤◌, ◌%◌, true, leb, Option, None, Some, ap, arith}
 use Rattle.std.proofs.lemmas.Bool.{and_parts, leb-true}
 use Rattle.std.specs.Option.{option_map_or}
-use Rattle.card_history.specs.Records.{CardName}
+use Rattle.issuer_base.specs.CardNames.{CardName}
 use Rattle.issuer_setup.specs.CardList.{number_of}
 use Rattle.issuer_base.specs.declared.limits.TheConstants.{MAX_SHARDS}
 use Rattle.issuer_setup.specs.Shards.{are_shards}

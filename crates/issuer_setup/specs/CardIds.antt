@@ -3,7 +3,7 @@ use Rattle.std.specs.Prelude.{◌≡◌, ℕ, ◌-◌, ◌/◌, Bool, ◌&&◌, 
 use Rattle.std.specs.HashMap.{HashMap, get}
 use Rattle.std.specs.Int.{w64, from_le_bytes}
 use Rattle.issuer_base.specs.CardNumber.{is_pan}
-use Rattle.card_history.specs.Records.{CardName}
+use Rattle.issuer_base.specs.CardNames.{CardName}
 use Rattle.issuer_setup.specs.declared.card.CardInfo.{CardInfo}
 use Rattle.issuer_setup.specs.declared.card_id.CardId.{CardId}
 use Rattle.issuer_setup.specs.CardList.{number_of}

@@ -4,7 +4,7 @@ use Rattle.std.specs.Option.{option_map_or}
 use Rattle.issuer_base.specs.declared.request.Request.{Request}
 use Rattle.issuer_base.specs.declared.request.Suite.{Suite}
 use Rattle.issuer_base.specs.ChipData.{dki, suite_of}
-use Rattle.card_history.specs.Records.{CardName}
+use Rattle.issuer_base.specs.CardNames.{CardName}
 use Rattle.key_derive.specs.declared.card.KeySet.{KeySet}
 use Rattle.key_derive.specs.declared.card.CardKeys.{CardKeys}
 use Rattle.key_derive.specs.CardKey.{card_keys}

@@ -1,7 +1,7 @@
 //! An issuer: its shards, its key sets, its cards with their master keys, and its decision table.
 ghost use Rattle.std.specs.Prelude.{◌≡◌, ◌%◌, ◌<◌, true, None, Some, length, slice_get, IsSome, MatchOption, IfOk, IfErr};
 ghost use Rattle.std.specs.Option.{option_map};
-ghost use Rattle.card_history.specs.Records.{CardName};
+ghost use Rattle.issuer_base.specs.CardNames.{CardName};
 ghost use Rattle.issuer_setup.specs.Shards.{are_shards};
 ghost use Rattle.issuer_setup.specs.KeyList.{bad_key, key_of, AreKeys};
 ghost use Rattle.issuer_setup.specs.CardList.{number_of, bad_card, AreCards};

@@ -1112,31 +1112,49 @@ pub(crate) fn comes_to_the_expected<R: AllocGlobal + Threads + Wait + Sync>(
     }
 }
 
-#[test]
-fn comes_to_the_worked_rows(rt: HostRuntime) -> Result<(), Fail> {
+/// Does the runs of these groups, one after another. Fails with the name of the first that has another outcome.
+fn come_to_the_expected<R: AllocGlobal + Threads + Wait + Sync>(
+    rt: &R,
+    groups: &[&'static [Run]],
+) -> Result<(), Fail> {
     let mut journals = Texts::none(rt.alloc());
-    for runs in [
-        lines(),
-        decisions(),
-        aes_cards(),
-        reports(),
-        halts(),
-        full_queue(),
-        store_faults(),
-        other_faults(),
-        journals_found(),
-        old_journals(),
-        settings(),
-        worlds(),
-        dols(),
-        pin_lengths(),
-        pin_keys(),
-        pin_stops(),
-    ] {
-        for run in runs {
-            let is_right = comes_to_the_expected(&rt, run, &mut journals)?;
-            assert!(rt; is_right, "{}", run.name);
+    for runs in groups {
+        for run in *runs {
+            if !comes_to_the_expected(rt, run, &mut journals)? {
+                return Err(Fail::from(run.name));
+            }
         }
     }
     Ok(())
+}
+
+// The rows are dealt to several tests, since each has a limit of time.
+#[test]
+fn lines_and_decisions_come_to_the_worked_rows(rt: HostRuntime) -> Result<(), Fail> {
+    come_to_the_expected(&rt, &[lines(), decisions(), aes_cards()])
+}
+
+#[test]
+fn scripts_come_to_the_worked_rows(rt: HostRuntime) -> Result<(), Fail> {
+    come_to_the_expected(&rt, &[reports(), halts(), full_queue()])
+}
+
+#[test]
+fn faults_come_to_the_worked_rows(rt: HostRuntime) -> Result<(), Fail> {
+    come_to_the_expected(&rt, &[store_faults(), other_faults()])
+}
+
+#[test]
+fn journals_come_to_the_worked_rows(rt: HostRuntime) -> Result<(), Fail> {
+    come_to_the_expected(&rt, &[journals_found(), old_journals(), settings()])
+}
+
+#[test]
+fn worlds_and_dols_come_to_the_worked_rows(rt: HostRuntime) -> Result<(), Fail> {
+    come_to_the_expected(&rt, &[worlds(), dols()])
+}
+
+#[test]
+fn pin_changes_come_to_the_worked_rows(rt: HostRuntime) -> Result<(), Fail> {
+    come_to_the_expected(&rt, &[pin_lengths(), pin_keys(), pin_stops()])
 }

@@ -15,22 +15,22 @@ use Rattle.line_reader.specs.declared.limits.TheConstants.{MAX_LINES}
 use Rattle.answer_text.specs.declared.stop_line.Stop.TheVariants.{ReadFault}
 use Rattle.answer_text.specs.declared.stop_line.Stop.TheVariants.{NoMemory, TooLong}
 use Rattle.issuer_setup.specs.IssuerSetup.{Setup}
-use Rattle.run_endings.specs.declared.ending.Ending.{Ending}
+use Rattle.issuer_top.specs.declared.ending.Ending.{Ending}
 use Rattle.line_blocks.specs.declared.served.Served.{Served}
 use Rattle.line_blocks.specs.declared.served.Served.TheVariants.{All, ReadFault as ReadStopped, WriteFault as SinkFault}
 use Rattle.line_blocks.specs.declared.served.Served.TheVariants.{TooLong as LongStopped}
-use Rattle.run_endings.specs.Seen.{Seen, SeenInput}
+use Rattle.issuer_top.specs.Seen.{Seen, SeenInput}
 use Rattle.line_blocks.specs.Answered.{AreAllLines, AreWholeLines, AreLinesBefore, AreFirstLines}
-use Rattle.host_closing.specs.Leaving.{LeavesAnswered, LeavesLoaded}
-use Rattle.run_endings.specs.Opening.{GivesInput, stop_of}
+use Rattle.line_serving.specs.Leaving.{LeavesAnswered, LeavesLoaded}
+use Rattle.issuer_top.specs.Opening.{GivesInput, stop_of}
 use Rattle.command_line.specs.Command.{RequestFile}
 use Rattle.line_blocks.specs.Serving.{ServesLines, Serves, read_failed, write_failed}
-use Rattle.run_endings.specs.Stopping.{EndsServing}
-use Rattle.run_endings.specs.Opened.{OpenedConfigOnly, OpenedBothInputs}
-use Rattle.run_endings.specs.Endings.{IsSetUp, AnswersLines}
-use Rattle.run_endings.specs.Endings.{AnswersNoLine}
-use Rattle.run_endings.specs.Endings.{EndsBy}
-use Rattle.run_endings.proofs.EndingSteps.{ends_at_once, ends_by_stop, told-given, StopsAtOnce}
+use Rattle.issuer_top.specs.Stopping.{EndsServing}
+use Rattle.issuer_top.specs.Opened.{OpenedConfigOnly, OpenedBothInputs}
+use Rattle.issuer_top.specs.Endings.{IsSetUp, AnswersLines}
+use Rattle.issuer_top.specs.Endings.{AnswersNoLine}
+use Rattle.issuer_top.specs.Endings.{EndsBy}
+use Rattle.issuer_top.proofs.EndingSteps.{ends_at_once, ends_by_stop, told-given, StopsAtOnce}
 
 module _ (seen : Seen) (requests : RequestFile) (journal : List ℕ) (issuer : Setup)
     (set_up : IsSetUp seen (Some requests) journal issuer) where

@@ -1,8 +1,21 @@
-//! The whole run of the program: words, configuration, journals, request lines and answers, over any desk and sink.
+//! The whole run of the program, by the command that its words ask for, over any desk and sink; and how it ends: what its
+//! status and its last line say of all that the run saw.
 #![tactic(auto)]
 
+mod clear;
+mod ended;
+mod ending;
+mod export;
+mod filling;
+mod opening;
+mod pin;
+mod play;
+mod run;
+mod show;
+mod standby;
+mod stopping;
 mod top_call;
 
-pub use restart_law::every_image_loads_again;
-pub use run_endings::Ended;
+pub use ended::Ended;
+pub use one_caller::every_image_loads_again;
 pub use top_call::issue;

@@ -1,24 +1,25 @@
 //! The top call.
-ghost use Rattle.std.specs.Prelude.{◌≡◌, ℕ, List, [], Some, IfSome};
-ghost use Rattle.std.specs.Option.{option_map};
+ghost use Rattle.std.specs.Prelude.{◌≡◌, ℕ, List, [], Some};
 ghost use Rattle.issuer_setup.specs.IssuerSetup.{Setup};
 ghost use Rattle.desk_host.specs.Configuration.{HasSoundParts};
 ghost use Rattle.line_serving.specs.Hosts.{callers_of, IsReady, HasServed, IsIdle};
-ghost use Rattle.command_line.specs.Command.{IsCommand, IsGroup};
+ghost use Rattle.command_line.specs.Command.{IsServe, IsGroup};
 ghost use Rattle.command_line.specs.Pairs.{request_file};
-ghost use Rattle.run_endings.specs.Endings.{IsSetUp, Ends, Completes};
-ghost use Rattle.run_endings.specs.Filling.{Fills};
-ghost use Rattle.run_endings.specs.PinChanges.{Pins};
-ghost use Rattle.run_endings.specs.Seen.{IsSameDesk, seen_by};
+ghost use Rattle.issuer_top.specs.Endings.{IsSetUp, Ends, Completes};
+ghost use Rattle.issuer_top.specs.Filling.{Fills};
+ghost use Rattle.issuer_top.specs.PinChanges.{Pins};
+ghost use Rattle.issuer_top.specs.Seen.{IsSameDesk, seen_by};
 
+use crate::ended::Ended;
+use crate::opening::{open_issuer, stop_of};
+use crate::run::Run;
+use crate::stopping::end_serving;
 use answer_text::Stop;
-use command_line::{Names, Task, read_words};
+use command_line::{ServeWords, Task, read_words};
 use desk_host::{Journals, Loaded};
 use issuer_base::{Desk, Gate, NoMemory, Sink, Words};
 use issuer_setup::Issuer;
 use line_serving::{LineHost, Server, load_host};
-use run_commands::{Run, open_issuer, stop_of};
-use run_endings::{Ended, end_serving};
 use std::sync::Wait;
 use std::thread::Threads;
 
@@ -84,7 +85,8 @@ where
             (seen_by D.Desk D.Input.Source D.Journal.Store W.Sink words.now run.desk result out.old out.new) }
     {
         match read_words(words) {
-            Some(Task::Host(names)) => self.run_host(run, names, out),
+            Some(Task::Serve(names)) => self.serve(run, names, out),
+            Some(Task::Show(names)) => run.show(names, out),
             Some(Task::Play(size)) => run.play(size, out),
             Some(Task::Fill(texts)) => run.fill(&texts, out),
             Some(Task::Pin(order)) => run.change_pin(order, out),
@@ -95,59 +97,48 @@ where
         }
     }
 
-    /// Reads the configuration, loads the journals, and does what the command asks.
-    fn run_host<D, W>(&self, mut run: Run<D>, names: Names<'_>, out: &mut W) -> Ended<D>
+    /// Reads the configuration, loads the journals, and answers all lines of the request file.
+    fn serve<D, W>(&self, mut run: Run<D>, names: ServeWords<'_>, out: &mut W) -> Ended<D>
     where
         D: Desk,
         D::Journal: Send,
         W: Sink,
-        requires { IfSome names.requests (λ requests. IsGroup requests.callers) }
-        ensures { (words : List (List ℕ)) → IsCommand words names.entry.config.now
-            (option_map request_file names.entry.requests) names.entry.journal.now
+        requires { IsGroup names.callers }
+        ensures { (words : List (List ℕ)) → IsServe words names.entry.config.now
+            (request_file names.entry) names.entry.journal.now
             → Ends result.status
             (seen_by D.Desk D.Input.Source D.Journal.Store W.Sink words run.desk result out.old out.new) }
     {
         match open_issuer(run.alloc, &mut run.desk, names.config) {
-            Ok((issuer, config)) => self.do_command(run, issuer, config, names, out),
+            Ok((issuer, config)) => self.serve_issuer(run, issuer, config, names, out),
             Err(none) => run.not_opened(none, out),
         }
     }
 
-    /// Loads the journals of an issuer, and answers all lines of the request file, or shows all cards if there is none.
-    fn do_command<D, W>(
+    /// Loads the journals of an issuer, and answers all lines of the request file.
+    fn serve_issuer<D, W>(
         &self,
         mut run: Run<D>,
         issuer: Issuer,
         config: D::Input,
-        names: Names<'_>,
+        names: ServeWords<'_>,
         out: &mut W,
     ) -> Ended<D>
     where
         D: Desk,
         D::Journal: Send,
         W: Sink,
-        requires { IfSome names.requests (λ requests. IsGroup requests.callers) }
+        requires { IsGroup names.callers }
         ensures { (words : List (List ℕ)) (given : D)
             → let seen = seen_by D.Desk D.Input.Source D.Journal.Store W.Sink words given result out.old out.new in
-            IsSetUp seen (option_map request_file names.entry.requests) names.entry.journal.now issuer
+            IsSetUp seen (Some (request_file names.entry)) names.entry.journal.now issuer
             → HasSoundParts issuer → IsSameDesk D.Desk given run.desk
             → D.logs run.desk ≡ D.logs given → Ends result.status seen }
     {
-        match names.requests {
-            None => run.show(issuer, config, names.journal, out),
-            Some(requests) => {
-                match load_host(
-                    self.rt,
-                    run.alloc,
-                    &mut run.desk,
-                    names.journal,
-                    issuer,
-                    requests.callers,
-                ) {
-                    Ok(loaded) => self.serve_requests(run, loaded, config, requests.file, out),
-                    Err(none) => run.not_loaded(none, config, out),
-                }
-            }
+        let (rt, desk) = (self.rt, &mut run.desk);
+        match load_host(rt, run.alloc, desk, names.journal, issuer, names.callers) {
+            Ok(loaded) => self.serve_requests(run, loaded, config, names.requests, out),
+            Err(none) => run.not_loaded(none, config, out),
         }
     }
 

@@ -1,4 +1,10 @@
 -- The laws of this crate.
-pub use Rattle.master_keys.proofs.Blocks
 pub mod Lengths
 pub mod Sessions
+pub mod Blocks
+pub mod Nibbles
+pub mod Options
+pub mod Packing
+pub mod Taking
+pub mod Suites
+pub mod MacLengths

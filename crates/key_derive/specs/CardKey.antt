@@ -8,7 +8,7 @@ use Rattle.issuer_base.specs.declared.request.Suite.TheVariants.{TripleDes, Aes}
 use Rattle.key_derive.specs.declared.card.AesPair.{AesPair}
 use Rattle.key_derive.specs.declared.card.KeySet.{KeySet}
 use Rattle.key_derive.specs.declared.card.CardKeys.{CardKeys}
-use Rattle.master_keys.specs.MasterKey.{master_key, aes_master}
+use Rattle.key_derive.specs.MasterKey.{master_key, aes_master}
 
 -- the card's master keys for cryptograms and for secure messaging, each from the issuer's triple DES key of that use
 abbrev pub des_keys : KeySet → List ℕ → ℕ → CardKeys

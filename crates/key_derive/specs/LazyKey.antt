@@ -4,7 +4,7 @@ use Rattle.aes_cipher.specs.Cipher.{aes_encipher}
 use Rattle.key_derive.specs.declared.card.CardKeys.{CardKeys}
 use Rattle.key_derive.specs.declared.lazy.KeySource.{KeySource}
 use Rattle.key_derive.specs.declared.lazy.KeySource.TheVariants.{Derived, TripleDes, Aes}
-use Rattle.master_keys.specs.MasterKey.{diversified}
+use Rattle.key_derive.specs.MasterKey.{diversified}
 
 -- the keys themselves, or those derived from the block of digits by the issuer's master keys
 abbrev pub keys_from : KeySource → CardKeys

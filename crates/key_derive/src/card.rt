@@ -4,9 +4,9 @@ ghost use Rattle.std.specs.Prelude.{◌≡◌};
 ghost use Rattle.key_derive.specs.CardKey.{card_keys, card_smc};
 
 use crate::lazy::LazyKeys;
+use crate::master::master_key;
 use des_block::Key16;
 use issuer_base::{MasterOption, Pan, Suite};
-use master_keys::master_key;
 
 /// The issuer's master keys for cards with AES.
 #[derive(Clone, Copy)]

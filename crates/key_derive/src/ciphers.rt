@@ -3,14 +3,14 @@
 ghost use Rattle.std.specs.Prelude.{◌≡◌};
 ghost use Rattle.std.specs.Option.{option_map};
 ghost use Rattle.aes_cipher.specs.Cipher.{aes_encipher};
-ghost use Rattle.master_keys.specs.MasterKey.{diversified};
+ghost use Rattle.key_derive.specs.MasterKey.{diversified};
 ghost use Rattle.key_derive.specs.CardKey.{des_keys, aes_keys, card_keys};
 
 use crate::card::{AesPair, CardKeys, KeySet};
+use crate::master::{aes_block, aes_key, block_of, diversified};
 use aes_cipher::Aes;
 use des_block::{Key16, Tdes};
 use issuer_base::{Pan, Suite};
-use master_keys::{aes_block, aes_key, block_of, diversified};
 use std::marker::Model;
 
 /// A key set with its master keys' key schedules, computed once for all cards.

@@ -5,10 +5,10 @@ ghost use Rattle.key_derive.specs.CardKey.{des_keys, aes_keys, card_keys};
 
 use crate::card::{AesPair, CardKeys, KeySet};
 use crate::ciphers::MasterCiphers;
+use crate::master::{aes_block, aes_key, block_of, diversified};
 use aes_cipher::Aes;
 use des_block::{Key16, Tdes};
 use issuer_base::{Pan, Suite};
-use master_keys::{aes_block, aes_key, block_of, diversified};
 use std::marker::Model;
 
 /// A card's master keys of one suite, derived on demand: a host sees few of its cards often, and few replies carry an

@@ -7,12 +7,12 @@ ghost use Rattle.key_derive.specs.SessionKey.{session_key, session_ac, session_s
 ghost use Rattle.key_derive.specs.SuiteCipher.{HasCipherKey};
 
 use crate::card::CardKeys;
+use crate::half_block::with_zeros;
+use crate::master::joined;
 use aes_cipher::Aes;
 use des_block::{Key16, Tdes};
 use issuer_base::Suite;
-use master_keys::joined;
 use std::marker::Model;
-use suite_mac::with_zeros;
 
 /// The session key for the cryptograms of one transaction. It is small, so it moves with its request: whoever computes a
 /// cryptogram under it computes its key schedules.

@@ -6,8 +6,8 @@ use Rattle.std.proofs.lemmas.Slice.Zip.{all_zipped_more}
 use Rattle.std.specs.List.{AllZip}
 use Rattle.issuer_base.specs.declared.answer.Refusal.{Refusal}
 use Rattle.issuer_setup.specs.IssuerSetup.{Setup}
-use Rattle.line_checks.specs.declared.sought.Sought.{Sought}
-use Rattle.line_checks.specs.declared.sought.Sought.TheVariants.{Request as IsRequest, Order}
+use Rattle.line_checks.specs.declared.looked_up.LookedUp.{LookedUp}
+use Rattle.line_checks.specs.declared.looked_up.LookedUp.TheVariants.{Request as IsRequest, Order}
 use Rattle.line_checks.specs.LookedUp.{IsReady, IsLookedUpAgain}
 
 -- one more pair
@@ -32,12 +32,12 @@ same-from xs ys i d same =
     ap (λ n. get_or xs n d) place ∙ sym (get_or-drop i xs 0 d) ∙ ap (λ zs. get_or zs 0 d) same ∙ get_or-drop i ys 0 d ∙ ap (λ n. get_or ys n d) (sym place)
 
 -- a look-up finds the same as itself
-pub again-same : (issuer : Setup) (found : Result Sought Refusal) → IsReady issuer found → IsLookedUpAgain issuer found found
+pub again-same : (issuer : Setup) (found : Result LookedUp Refusal) → IsReady issuer found → IsLookedUpAgain issuer found found
 again-same issuer (Ok (IsRequest sought)) ready = record { request_is = refl; card_is = refl; slot_is = refl; at_hand = ready }
 again-same issuer (Ok (Order order)) ready = refl
 again-same issuer (Err refusal) ready = refl
 
-pub again-all : (issuer : Setup) (found : List (Result Sought Refusal)) → All (IsReady issuer) found → AllZip (IsLookedUpAgain issuer) found found
+pub again-all : (issuer : Setup) (found : List (Result LookedUp Refusal)) → All (IsReady issuer) found → AllZip (IsLookedUpAgain issuer) found found
 again-all issuer [] ready = tt
 again-all issuer (first ∷ rest) ready =
     (again-same issuer first (All-head (IsReady issuer) first rest ready), again-all issuer rest (All-tail (IsReady issuer) first rest ready))

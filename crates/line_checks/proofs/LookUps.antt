@@ -5,8 +5,8 @@ use Rattle.std.proofs.lemmas.List.Elements.{All-nil, All-cons}
 use Rattle.issuer_base.specs.declared.request.Request.{Request}
 use Rattle.issuer_base.specs.declared.answer.Refusal.{Refusal}
 use Rattle.issuer_setup.specs.IssuerSetup.{Setup}
-use Rattle.line_checks.specs.declared.sought.Sought.{Sought}
-use Rattle.line_checks.specs.declared.sought.Sought.TheVariants.{Request as IsRequest, Order}
+use Rattle.line_checks.specs.declared.looked_up.LookedUp.{LookedUp}
+use Rattle.line_checks.specs.declared.looked_up.LookedUp.TheVariants.{Request as IsRequest, Order}
 use Rattle.line_checks.specs.LookedUp.{CarriesRequest, IsLookUp, AreLookUps, IsLookedUpAgain, IsReady, IsSought}
 use Rattle.line_checks.specs.Reading.{checked, checked_data, said_by, reading}
 
@@ -14,13 +14,13 @@ pub carried : (issuer : Setup) (line : List ℕ) (request : Request) → Carries
 carried issuer line request carries = ap (said_by issuer) carries.asks ∙ ap (checked_data issuer) carries.parsed
 
 -- what was looked up for a line has its keys at hand
-pub sought-ready : (issuer : Setup) (line : List ℕ) (found : Result Sought Refusal) → IfOk found (IsSought issuer line) → IsReady issuer found
+pub sought-ready : (issuer : Setup) (line : List ℕ) (found : Result LookedUp Refusal) → IfOk found (IsSought issuer line) → IsReady issuer found
 sought-ready issuer line (Ok (IsRequest sought)) its = its.1
 sought-ready issuer line (Ok (Order order)) its = tt
 sought-ready issuer line (Err refusal) its = tt
 
 -- and is still that of the line once it was looked up again
-pub sought-again : (issuer : Setup) (line : List ℕ) (old new : Result Sought Refusal) → IfOk old (IsSought issuer line) → IsLookedUpAgain issuer old new
+pub sought-again : (issuer : Setup) (line : List ℕ) (old new : Result LookedUp Refusal) → IfOk old (IsSought issuer line) → IsLookedUpAgain issuer old new
     → IfOk new (IsSought issuer line)
 sought-again issuer line (Ok (IsRequest old)) (Ok (IsRequest new)) its again =
     (subst (CarriesRequest line) (sym again.request_is) its.0, again.at_hand)
@@ -30,7 +30,7 @@ sought-again issuer line (Ok (Order order)) new its again = subst (λ found. IfO
 sought-again issuer line (Err refusal) new its again = subst (λ found. IfOk found (IsSought issuer line)) (sym again) tt
 
 -- a refusal stays the same
-pub refused-again : (issuer : Setup) (P : Refusal → Type 0) (old new : Result Sought Refusal) → IfErr old P → IsLookedUpAgain issuer old new → IfErr new P
+pub refused-again : (issuer : Setup) (P : Refusal → Type 0) (old new : Result LookedUp Refusal) → IfErr old P → IsLookedUpAgain issuer old new → IfErr new P
 refused-again issuer P (Ok (IsRequest old)) (Ok (IsRequest new)) its again = tt
 refused-again issuer P (Ok (IsRequest old)) (Ok (Order order)) its again = absurd cc
 refused-again issuer P (Ok (IsRequest old)) (Err refusal) its again = absurd cc
@@ -40,7 +40,7 @@ refused-again issuer P (Err refusal) new its again = subst (λ found. IfErr foun
 -- ---- the look-ups of several lines
 
 -- each has its keys at hand
-pub all-ready : (issuer : Setup) (lines : List (List ℕ)) (found : List (Result Sought Refusal)) → AreLookUps issuer lines found
+pub all-ready : (issuer : Setup) (lines : List (List ℕ)) (found : List (Result LookedUp Refusal)) → AreLookUps issuer lines found
     → All (IsReady issuer) found
 all-ready issuer [] [] are = All-nil (IsReady issuer)
 all-ready issuer [] (found ∷ more) are = absurd are
@@ -51,7 +51,7 @@ all-ready issuer (line ∷ lines) (Err refusal ∷ more) are =
     All-cons (IsReady issuer) (Err refusal) more tt (all-ready issuer lines more are.1)
 
 -- what was looked up again for a line is the look-up of the line
-look-up-again : (issuer : Setup) (line : List ℕ) (old new : Result Sought Refusal) → IsLookUp issuer line old → IsLookedUpAgain issuer old new
+look-up-again : (issuer : Setup) (line : List ℕ) (old new : Result LookedUp Refusal) → IsLookUp issuer line old → IsLookedUpAgain issuer old new
     → IsLookUp issuer line new
 look-up-again issuer line (Ok old) (Ok new) its again = sought-again issuer line (Ok old) (Ok new) its again
 look-up-again issuer line (Ok (IsRequest old)) (Err refusal) its again = absurd cc
@@ -59,7 +59,7 @@ look-up-again issuer line (Ok (Order old)) (Err refusal) its again = absurd cc
 look-up-again issuer line (Err refusal) new its again = subst (IsLookUp issuer line) (sym again) its
 
 -- and so it is of each
-pub all-again : (issuer : Setup) (lines : List (List ℕ)) (old new : List (Result Sought Refusal)) → AreLookUps issuer lines old
+pub all-again : (issuer : Setup) (lines : List (List ℕ)) (old new : List (Result LookedUp Refusal)) → AreLookUps issuer lines old
     → AllZip (IsLookedUpAgain issuer) old new → AreLookUps issuer lines new
 all-again issuer [] [] [] are same = tt
 all-again issuer [] [] (new ∷ news) are same = absurd same

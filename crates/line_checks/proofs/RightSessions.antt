@@ -11,15 +11,14 @@ use Rattle.issuer_base.specs.declared.request.Suite.TheVariants.{TripleDes, Aes}
 use Rattle.issuer_base.specs.ChipData.{dki, suite_of}
 use Rattle.retail_mac.specs.Mac.{retail_mac}
 use Rattle.retail_mac.proofs.Blocks.{length-retail_mac}
-use Rattle.suite_mac.specs.SuiteMac.{mac_of}
+use Rattle.key_derive.specs.SuiteMac.{mac_of}
 use Rattle.key_derive.specs.declared.card.AesPair.{AesPair}
 use Rattle.key_derive.specs.declared.card.KeySet.{KeySet}
 use Rattle.key_derive.specs.declared.card.CardKeys.{CardKeys}
 use Rattle.key_derive.specs.CardKey.{des_keys, aes_keys}
 use Rattle.key_derive.specs.SessionKey.{session_ac}
 use Rattle.cryptogram_in.specs.Cryptogram.{input, cryptogram_under, application_cryptogram}
-use Rattle.cryptogram_lanes.specs.Checks.{DesCheck}
-use Rattle.cryptogram_lanes.specs.Batch.{check_of, des_session, des_mac, right_session}
+use Rattle.cryptogram_in.specs.Checks.{DesCheck, check_of, des_session, des_mac, right_session}
 use Rattle.issuer_setup.specs.declared.card.CardInfo.{CardInfo}
 use Rattle.issuer_setup.specs.KeyList.{key_of}
 use Rattle.issuer_setup.specs.IssuerSetup.{Setup, keys_from, keys_of}

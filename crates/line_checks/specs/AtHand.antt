@@ -6,12 +6,13 @@ use Rattle.issuer_base.specs.declared.entry.Entry.{Entry}
 use Rattle.issuer_base.specs.declared.entry.Entry.TheVariants.{Queued, Status as IsStatus}
 use Rattle.card_history.specs.declared.decision.Asked.{Asked}
 use Rattle.card_history.specs.declared.decision.Asked.TheVariants.{Decide as AsksDecision, Queue as AsksQueue, Status as AsksStatus}
-use Rattle.card_history.specs.Records.{CardName, named, card_of, card_in}
+use Rattle.issuer_base.specs.CardNames.{CardName, named}
+use Rattle.card_history.specs.Records.{card_of, card_in}
 use Rattle.key_derive.specs.SessionKey.{session_of}
 use Rattle.issuer_setup.specs.CardList.{number_of, AreCards}
 use Rattle.issuer_setup.specs.IssuerSetup.{Setup, keys_of}
-use Rattle.line_checks.specs.declared.checked.Checked.{Checked}
-use Rattle.line_checks.specs.declared.checked.Checked.TheVariants.{Decide, Order}
+use Rattle.line_checks.specs.declared.checked.CheckedLine.{CheckedLine}
+use Rattle.line_checks.specs.declared.checked.CheckedLine.TheVariants.{Decide, Order}
 use Rattle.line_checks.specs.declared.checked.CheckedOrder.{CheckedOrder}
 use Rattle.line_checks.specs.declared.checked.CheckedOrder.TheVariants.{Command, Status}
 use Rattle.line_checks.specs.declared.checked.CheckedRequest.{CheckedRequest}
@@ -24,7 +25,7 @@ order_asked (Command found) = AsksQueue found.pan found.psn found.command
 order_asked (Status found) = AsksStatus found.pan found.psn found.status
 
 -- what the line asks
-abbrev pub asked_of : Checked → Asked
+abbrev pub asked_of : CheckedLine → Asked
 asked_of (Decide found) = AsksDecision found.request
 asked_of (Order found) = order_asked found
 
@@ -71,6 +72,6 @@ IsOrderAtHand issuer (Command found) = IsCommandAtHand issuer found
 IsOrderAtHand issuer (Status found) = IsStatusAtHand issuer found
 
 -- what a line asks comes with its card's number, and a request also with its keys
-abbrev pub IsAtHand : Setup → Checked → Type 0
+abbrev pub IsAtHand : Setup → CheckedLine → Type 0
 IsAtHand issuer (Decide found) = IsRequestAtHand issuer found
 IsAtHand issuer (Order found) = IsOrderAtHand issuer found

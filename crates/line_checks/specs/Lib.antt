@@ -3,3 +3,4 @@ pub mod Reading
 pub mod AtHand
 pub mod LookedUp
 pub mod RequestFacts
+pub use Rattle.cryptogram_in.specs.Cryptogram

@@ -16,15 +16,14 @@ use Rattle.key_derive.specs.declared.card.CardKeys.{CardKeys}
 use Rattle.key_derive.specs.SuiteKey.{SuiteKey}
 use Rattle.key_derive.specs.SessionKey.{session_of}
 use Rattle.cryptogram_in.specs.Cryptogram.{application_cryptogram}
-use Rattle.cryptogram_lanes.specs.Checks.{DesCheck}
-use Rattle.cryptogram_lanes.specs.Batch.{check_of}
+use Rattle.cryptogram_in.specs.Checks.{DesCheck, check_of}
 use Rattle.issuer_setup.specs.IssuerSetup.{Setup}
 use Rattle.issuer_setup.specs.KeySlots.{keys_at, IsSlotOf}
-use Rattle.line_checks.specs.declared.sought.Sought.{Sought}
-use Rattle.line_checks.specs.declared.sought.Sought.TheVariants.{Request as IsRequest, Order}
-use Rattle.line_checks.specs.declared.sought.SoughtRequest.{SoughtRequest}
-use Rattle.line_checks.specs.declared.sought.Verdict.{Verdict}
-use Rattle.line_checks.specs.declared.sought.Verdict.TheVariants.{Unchecked, Right, Wrong}
+use Rattle.line_checks.specs.declared.looked_up.LookedUp.{LookedUp}
+use Rattle.line_checks.specs.declared.looked_up.LookedUp.TheVariants.{Request as IsRequest, Order}
+use Rattle.line_checks.specs.declared.looked_up.LookedUpRequest.{LookedUpRequest}
+use Rattle.line_checks.specs.declared.looked_up.CryptogramVerdict.{CryptogramVerdict}
+use Rattle.line_checks.specs.declared.looked_up.CryptogramVerdict.TheVariants.{Unchecked, Right, Wrong}
 use Rattle.line_checks.specs.AtHand.{IsCardAtHand, IsOrderAtHand, order_asked}
 use Rattle.line_checks.specs.Reading.{reading}
 
@@ -41,68 +40,68 @@ pub record IsRightSession (keys : CardKeys) (request : Request) (session : Suite
   pub eight : length request.ac ≡ 8
 
 -- what is known of the request's cryptogram under these keys: if it is right, this is the session key of triple DES
-abbrev pub IsVerdict : CardKeys → Request → Verdict → Type 0
+abbrev pub IsVerdict : CardKeys → Request → CryptogramVerdict → Type 0
 IsVerdict keys request Unchecked = Unit {0}
 IsVerdict keys request (Right key) = IsRightSession keys request (record { suite = TripleDes; key = key.0 })
 IsVerdict keys request Wrong = request.ac ≢ application_cryptogram keys request
 
 -- the verdict of a check that gave this session key, or none
-abbrev pub verdict_of : Option Key16 → Verdict
+abbrev pub verdict_of : Option Key16 → CryptogramVerdict
 verdict_of (Some key) = Right key
 verdict_of None = Wrong
 
 -- the request asks to go online; these are its card, and the slot of the card's master keys from the key set that the
 -- request names; and what is known of its cryptogram is so under these keys
-pub record HasKeysAtHand (issuer : Setup) (sought : SoughtRequest) : Type 0 where
+pub record HasKeysAtHand (issuer : Setup) (sought : LookedUpRequest) : Type 0 where
   pub card_is : IsCardAtHand issuer (card_of sought.request) sought.card
   pub online_is : is_arqc sought.request ≡ true
   pub slot_is : IsSlotOf issuer sought.card sought.request sought.slot
   pub verdict_is : IsVerdict slot_is.keys sought.request sought.verdict
 
 -- what the line asks: a request with its card and keys, or an order that passed every check
-abbrev pub IsSought : Setup → List ℕ → Sought → Type 0
+abbrev pub IsSought : Setup → List ℕ → LookedUp → Type 0
 IsSought issuer line (IsRequest sought) = CarriesRequest line sought.request × HasKeysAtHand issuer sought
 IsSought issuer line (Order found) = (reading issuer line ≡ Ok (order_asked found)) × IsOrderAtHand issuer found
 
 -- the order is what is asked, and passed every check
-abbrev pub IsOrderSought : Setup → Result Asked Refusal → Sought → Type 0
+abbrev pub IsOrderSought : Setup → Result Asked Refusal → LookedUp → Type 0
 IsOrderSought issuer asked (IsRequest sought) = ⊥
 IsOrderSought issuer asked (Order found) = (asked ≡ Ok (order_asked found)) × IsOrderAtHand issuer found
 
 -- this is what the look-up of the line gives: what it asks, or its refusal, which isn't for a bad cryptogram
-abbrev pub IsLookUp : Setup → List ℕ → Result Sought Refusal → Type 0
+abbrev pub IsLookUp : Setup → List ℕ → Result LookedUp Refusal → Type 0
 IsLookUp issuer line (Ok sought) = IsSought issuer line sought
 IsLookUp issuer line (Err refusal) = (reading issuer line ≡ Err refusal) × (refusal ≢ BadCryptogram)
 
 -- so it is of each of these lines
-abbrev pub AreLookUps : Setup → List (List ℕ) → List (Result Sought Refusal) → Type 0
+abbrev pub AreLookUps : Setup → List (List ℕ) → List (Result LookedUp Refusal) → Type 0
 AreLookUps issuer lines found = AllZip (IsLookUp issuer) lines found
 
 -- a request that was looked up has its card and keys
-abbrev pub IsReady : Setup → Result Sought Refusal → Type 0
+abbrev pub IsReady : Setup → Result LookedUp Refusal → Type 0
 IsReady issuer (Ok (IsRequest sought)) = HasKeysAtHand issuer sought
 IsReady issuer _ = Unit {0}
 
 -- the look-up found the same: a request with its card and keys, of whose cryptogram more may be known
-pub record IsRequestAgain (issuer : Setup) (old new : SoughtRequest) : Type 0 where
+pub record IsRequestAgain (issuer : Setup) (old new : LookedUpRequest) : Type 0 where
   pub request_is : new.request ≡ old.request
   pub card_is : new.card ≡ old.card
   pub slot_is : new.slot ≡ old.slot
   pub at_hand : HasKeysAtHand issuer new
 
 -- or an order or a refusal, unchanged
-abbrev pub IsLookedUpAgain : Setup → Result Sought Refusal → Result Sought Refusal → Type 0
+abbrev pub IsLookedUpAgain : Setup → Result LookedUp Refusal → Result LookedUp Refusal → Type 0
 IsLookedUpAgain issuer (Ok (IsRequest old)) (Ok (IsRequest new)) = IsRequestAgain issuer old new
 IsLookedUpAgain issuer old new = new ≡ old
 
 -- the check is that of the request's cryptogram under its card's key, if this is of triple DES
-abbrev pub IsCheckFor : Setup → SoughtRequest → DesCheck → Type 0
+abbrev pub IsCheckFor : Setup → LookedUpRequest → DesCheck → Type 0
 IsCheckFor issuer sought check =
     (keys : CardKeys) → keys_at issuer sought.slot ≡ Some keys → suite_of sought.request ≡ TripleDes
     → check ≡ check_of keys.ac sought.request
 
 -- it is that of a request that was looked up
-abbrev pub IsCheckOf : Setup → Result Sought Refusal → DesCheck → Type 0
+abbrev pub IsCheckOf : Setup → Result LookedUp Refusal → DesCheck → Type 0
 IsCheckOf issuer (Ok (IsRequest sought)) check = IsCheckFor issuer sought check
 IsCheckOf issuer _ check = Unit {0}
 

@@ -9,7 +9,8 @@ use Rattle.issuer_base.specs.declared.answer.Refusal.TheVariants.{UnknownCard, N
 use Rattle.issuer_base.specs.ChipData.{dki, is_arqc}
 use Rattle.card_history.specs.declared.decision.Asked.{Asked}
 use Rattle.card_history.specs.declared.decision.Asked.TheVariants.{Decide, Queue, Status}
-use Rattle.card_history.specs.Records.{CardName, named, card_of}
+use Rattle.issuer_base.specs.CardNames.{CardName, named}
+use Rattle.card_history.specs.Records.{card_of}
 use Rattle.chip_request.specs.declared.reading.RequestFault.{RequestFault}
 use Rattle.chip_request.specs.declared.reading.RequestFault.TheVariants.{BadTlv as IsTorn, Missing as Lacks}
 use Rattle.chip_request.specs.declared.reading.RequestFault.TheVariants.{BadField as HasBadField, Repeated as Repeats}

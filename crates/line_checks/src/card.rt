@@ -1,7 +1,7 @@
 //! The look-up of a command and of a status for a card. Each is a call of its own, so that requests don't pay for its
 //! memory.
 ghost use Rattle.std.specs.Prelude.{◌≡◌, ◌≢◌, ◌≤◌, Err, IfOk, IfErr};
-ghost use Rattle.card_history.specs.Records.{named};
+ghost use Rattle.issuer_base.specs.CardNames.{named};
 ghost use Rattle.issuer_base.specs.declared.answer.Refusal.TheVariants.{BadCryptogram};
 ghost use Rattle.script_commands.specs.Commands.{command_of};
 ghost use Rattle.issuer_setup.specs.CardList.{number_of};
@@ -9,7 +9,7 @@ ghost use Rattle.line_checks.specs.Reading.{command_for, status_for};
 ghost use Rattle.line_checks.specs.LookedUp.{IsOrderSought};
 
 use crate::checked::{CheckedCommand, CheckedOrder, CheckedStatus};
-use crate::sought::Sought;
+use crate::looked_up::LookedUp;
 use issuer_base::{MAX_STATUS, Pan, Refusal};
 use issuer_setup::Issuer;
 use script_commands::read_command;
@@ -21,7 +21,7 @@ pub(crate) fn look_up_command(
     pan: Pan,
     psn: u8,
     bytes: &[u8],
-) -> Result<Sought, Refusal>
+) -> Result<LookedUp, Refusal>
     ensures sought { IfOk result (IsOrderSought issuer.now
         (command_for (named pan psn) (number_of (named pan psn) issuer.now.cards) (command_of bytes.now))) }
     ensures refused { IfErr result (λ refusal. (command_for (named pan psn)
@@ -32,7 +32,7 @@ pub(crate) fn look_up_command(
     let Ok(command) = read_command(bytes) else {
         return Err(Refusal::BadCommand);
     };
-    Ok(Sought::Order(CheckedOrder::Command(CheckedCommand {
+    Ok(LookedUp::Order(CheckedOrder::Command(CheckedCommand {
         pan,
         psn,
         command,
@@ -47,7 +47,7 @@ pub(crate) fn look_up_status(
     pan: Pan,
     psn: u8,
     status: u8,
-) -> Result<Sought, Refusal>
+) -> Result<LookedUp, Refusal>
     requires { status ≤ MAX_STATUS }
     ensures sought { IfOk result (IsOrderSought issuer.now
         (status_for (named pan psn) (number_of (named pan psn) issuer.now.cards) status)) }
@@ -55,7 +55,7 @@ pub(crate) fn look_up_status(
         (number_of (named pan psn) issuer.now.cards) status ≡ Err refusal) × (refusal ≢ BadCryptogram)) }
 {
     let card = issuer.card(&pan, psn).ok_or(Refusal::UnknownCard)?;
-    Ok(Sought::Order(CheckedOrder::Status(CheckedStatus {
+    Ok(LookedUp::Order(CheckedOrder::Status(CheckedStatus {
         pan,
         psn,
         status,

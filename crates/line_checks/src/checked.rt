@@ -8,7 +8,7 @@ use key_derive::{LazyKeys, SessionKey};
 
 /// What a line asks of a card that the issuer has.
 #[derive(Drop)]
-pub enum Checked {
+pub enum CheckedLine {
     /// A request is to be decided.
     Decide(CheckedRequest),
 

@@ -7,22 +7,22 @@ ghost use Rattle.line_checks.specs.AtHand.{asked_of, IsAtHand};
 ghost use Rattle.line_checks.specs.LookedUp.{IsSought};
 
 use crate::card::{look_up_command, look_up_status};
-use crate::checked::Checked;
+use crate::checked::CheckedLine;
+use crate::looked_up::{CryptogramVerdict, LookedUp, LookedUpRequest};
 use crate::request::{find_keys, refusal_of};
-use crate::sought::{Sought, SoughtRequest, Verdict};
 use chip_request::{LineForm, read_line_into, read_request};
 use issuer_base::{MAX_CHIP_BYTES, Refusal};
 use issuer_setup::Issuer;
 
 /// What a line, without its newline, asks of this issuer, or its first fault. It doesn't allocate.
-pub fn check_line(issuer: &Issuer, line: &[u8]) -> Result<Checked, Refusal>
+pub fn check_line(issuer: &Issuer, line: &[u8]) -> Result<CheckedLine, Refusal>
     ensures asked { result_map_both asked_of (λ refusal. refusal) result ≡ reading issuer.now line.now }
     ensures at_hand { IfOk result (IsAtHand issuer.now) }
 {
     let mut data = [0; MAX_CHIP_BYTES];
     match look_up(issuer, line, &mut data)? {
-        Sought::Request(sought) => Ok(Checked::Decide(sought.check(issuer)?)),
-        Sought::Order(found) => Ok(Checked::Order(found)),
+        LookedUp::Request(sought) => Ok(CheckedLine::Decide(sought.check(issuer)?)),
+        LookedUp::Order(found) => Ok(CheckedLine::Order(found)),
     }
 }
 
@@ -34,7 +34,7 @@ pub fn look_up(
     issuer: &Issuer,
     line: &[u8],
     data: &mut [u8; MAX_CHIP_BYTES],
-) -> Result<Sought, Refusal>
+) -> Result<LookedUp, Refusal>
     ensures sought { IfOk result (IsSought issuer.now line.now) }
     ensures refused { IfErr result (λ refusal. (reading issuer.now line.now ≡ Err refusal)
         × (refusal ≢ BadCryptogram)) }
@@ -51,11 +51,11 @@ pub fn look_up(
                 Err(fault) => return Err(refusal_of(fault)),
             };
             let (card, slot) = find_keys(issuer, &request)?;
-            return Ok(Sought::Request(SoughtRequest {
+            return Ok(LookedUp::Request(LookedUpRequest {
                 request,
                 card,
                 slot,
-                verdict: Verdict::Unchecked,
+                verdict: CryptogramVerdict::Unchecked,
             }));
         }
         LineForm::Queue { pan, psn, count } => {

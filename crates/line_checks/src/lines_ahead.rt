@@ -5,7 +5,7 @@ ghost use Rattle.line_checks.specs.LookedUp.{AreLookUps};
 ghost use Rattle.line_checks.specs.declared.lines_ahead.TheConstants.{MOST_AHEAD};
 
 use crate::in_lanes::check_in_lanes;
-use crate::sought::Sought;
+use crate::looked_up::LookedUp;
 use issuer_base::{NoMemory, Refusal};
 use issuer_setup::Issuer;
 use std::alloc::Global;
@@ -20,17 +20,17 @@ pub const MOST_AHEAD: usize = 128;
 /// A contract sees the list.
 #[derive(Drop)]
 pub struct LinesAhead {
-    found: VecDeque<Result<Sought, Refusal>>,
+    found: VecDeque<Result<LookedUp, Refusal>>,
 }
 
 impl Model for LinesAhead {
     ghost use Rattle.std.specs.Prelude.{◌≤◌, List, Result, length};
     ghost use Rattle.std.specs.VecDeque.{deque_capacity};
     ghost use Rattle.issuer_base.specs.declared.answer.Refusal.{Refusal};
-    ghost use Rattle.line_checks.specs.declared.sought.Sought.{Sought};
+    ghost use Rattle.line_checks.specs.declared.looked_up.LookedUp.{LookedUp};
     ghost use Rattle.line_checks.specs.declared.lines_ahead.TheConstants.{MOST_AHEAD};
 
-    ghost Value = { List (Result Sought Refusal) };
+    ghost Value = { List (Result LookedUp Refusal) };
 
     ghost view = { λ ahead. ahead.found.items };
 
@@ -71,7 +71,7 @@ impl LinesAhead {
     }
 
     /// Appends what the look-up of the next line gave.
-    pub fn add(&mut self, found: Result<Sought, Refusal>)
+    pub fn add(&mut self, found: Result<LookedUp, Refusal>)
         requires { length self.old < MOST_AHEAD }
         ensures { self.new ≡ self.old ++ found ∷ [] }
     {
@@ -89,14 +89,14 @@ impl LinesAhead {
     }
 
     /// What the look-up of the first line gave; `None` if there is none.
-    pub fn first(&self) -> Option<&Result<Sought, Refusal>>
+    pub fn first(&self) -> Option<&Result<LookedUp, Refusal>>
         ensures { MatchOption result (self.now ≡ []) (λ found. self.now ≡ found.now ∷ drop 1 self.now) }
     {
         self.found.front()
     }
 
     /// What the look-up of the line with this index gave; `None` if there are not as many.
-    pub fn get(&self, index: usize) -> Option<&Result<Sought, Refusal>>
+    pub fn get(&self, index: usize) -> Option<&Result<LookedUp, Refusal>>
         ensures { option_map (λ found. found.now) result ≡ slice_get self.now index }
     {
         self.found.get(index)

@@ -6,10 +6,10 @@ ghost use Rattle.issuer_base.specs.declared.answer.Refusal.TheVariants.{BadCrypt
 ghost use Rattle.line_checks.specs.Reading.{refusal_of, checked};
 ghost use Rattle.line_checks.specs.AtHand.{IsRequestAtHand};
 ghost use Rattle.line_checks.specs.LookedUp.{HasKeysAtHand};
-ghost use Rattle.line_checks.specs.declared.sought.Verdict.TheVariants.{Unchecked};
+ghost use Rattle.line_checks.specs.declared.looked_up.CryptogramVerdict.TheVariants.{Unchecked};
 
 use crate::checked::CheckedRequest;
-use crate::sought::{SoughtRequest, Verdict};
+use crate::looked_up::{CryptogramVerdict, LookedUpRequest};
 use chip_request::RequestFault;
 use issuer_base::{Refusal, Request};
 use issuer_setup::{Issuer, KeySlot};
@@ -41,17 +41,17 @@ pub fn check_request(issuer: &Issuer, request: Request) -> Result<CheckedRequest
 /// Looks up the card and the key set of a request, which must ask to go online: all of [`check_request`] but the check
 /// of its cryptogram. So it uses no key.
 #[inline(always)]
-pub fn look_up_request(issuer: &Issuer, request: Request) -> Result<SoughtRequest, Refusal>
+pub fn look_up_request(issuer: &Issuer, request: Request) -> Result<LookedUpRequest, Refusal>
     ensures request { IfOk result (λ sought. sought.request ≡ request) }
     ensures known { IfOk result (HasKeysAtHand issuer.now) }
     ensures refused { IfErr result (λ refusal. (checked issuer.now request ≡ Err refusal) × (refusal ≢ BadCryptogram)) }
 {
     let (card, slot) = find_keys(issuer, &request)?;
-    Ok(SoughtRequest {
+    Ok(LookedUpRequest {
         request,
         card,
         slot,
-        verdict: Verdict::Unchecked,
+        verdict: CryptogramVerdict::Unchecked,
     })
 }
 

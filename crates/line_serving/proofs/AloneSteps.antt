@@ -13,7 +13,7 @@ use Rattle.issuer_base.specs.declared.outside.store.Store.{Ghosts}
 use Rattle.line_reader.specs.Reading.{kept}
 use Rattle.line_checks.specs.LookedUp.{IsLookUp, AreLookUps}
 use Rattle.line_checks.specs.Reading.{reading}
-use Rattle.line_checks.specs.declared.sought.Sought.{Sought}
+use Rattle.line_checks.specs.declared.looked_up.LookedUp.{LookedUp}
 use Rattle.line_checks.proofs.KeptLines.{reading-kept}
 use Rattle.issuer_setup.specs.IssuerSetup.{Setup}
 use Rattle.answer_text.specs.AnswerText.{printed}
@@ -21,8 +21,8 @@ use Rattle.shard_book.specs.declared.shard.Shard.{Shard}
 use Rattle.shard_book.specs.Shards.{store_in}
 use Rattle.shard_book.proofs.OwnDecisions.{legal-then}
 use Rattle.one_caller.specs.declared.solo.Solo.{Solo}
-use Rattle.one_caller.specs.Books.{Book}
-use Rattle.one_caller.specs.Hosts.{AreShards, Stand}
+use Rattle.host_loading.specs.Books.{ShardBook}
+use Rattle.host_loading.specs.Hosts.{AreShards, Stand}
 use Rattle.one_caller.specs.Runs.{HasRun, LeaveBetween}
 use Rattle.one_caller.specs.Turns.{Run, Turn}
 use Rattle.one_caller.proofs.OneRun.{run-one_history}
@@ -30,7 +30,7 @@ use Rattle.one_caller.proofs.Running.{begins-legal, run-on}
 use Rattle.desk_host.specs.Configuration.{HasSoundParts}
 use Rattle.desk_host.specs.Journals.{IsReadySolo}
 use Rattle.line_blocks.specs.Serving.{TakesLine, Settles}
-use Rattle.host_closing.specs.Leaving.{LeavesAnswered, LeavesLoaded}
+use Rattle.line_serving.specs.Leaving.{LeavesAnswered, LeavesLoaded}
 use Rattle.line_serving.specs.declared.alone.AloneHost.{AloneHost}
 use Rattle.line_serving.specs.declared.hosts.LineHost.TheVariants.{Alone}
 use Rattle.line_serving.specs.Hosts.{HasAnswered, MaySettleAlone, IsIdle}
@@ -44,7 +44,7 @@ use Rattle.desk_host.proofs.LoadedLaws.{lawful-loaded}
 use Rattle.desk_host.proofs.WorldLaws.{is-lawful}
 
 -- a run over lines cut to what is kept of them is one over the lines
-run-kept : (issuer : Setup) (first : List Book) (asked : List (List ℕ)) (answers : List Answer) (last : List Book)
+run-kept : (issuer : Setup) (first : List ShardBook) (asked : List (List ℕ)) (answers : List Answer) (last : List ShardBook)
     → Run issuer first (map kept asked) answers last → Run issuer first asked answers last
 run-kept issuer first [] [] last run = run
 run-kept issuer first (line ∷ asked) (answer ∷ answers) last run = (
@@ -61,16 +61,16 @@ texts-more : (answers : List Answer) (answer : Answer)
 texts-more answers answer = sym (flat_map_more printed [] answers answer)
 
 -- the first of the look-ups is that of the first line
-pub record HasFirst (issuer : Setup) (lines : List (List ℕ)) (found : Result Sought Refusal)
-    (more : List (Result Sought Refusal)) : Type 0 where
+pub record HasFirst (issuer : Setup) (lines : List (List ℕ)) (found : Result LookedUp Refusal)
+    (more : List (Result LookedUp Refusal)) : Type 0 where
   pub line : List ℕ
   pub left : List (List ℕ)
   pub lines_are : lines ≡ line ∷ left
   pub first : IsLookUp issuer line found
   pub others : AreLookUps issuer left more
 
-pub first-of : (issuer : Setup) (lines : List (List ℕ)) (found : Result Sought Refusal)
-    (all more : List (Result Sought Refusal)) → all ≡ found ∷ more → AreLookUps issuer lines all
+pub first-of : (issuer : Setup) (lines : List (List ℕ)) (found : Result LookedUp Refusal)
+    (all more : List (Result LookedUp Refusal)) → all ≡ found ∷ more → AreLookUps issuer lines all
     → HasFirst issuer lines found more
 first-of issuer lines found all more all_are are =
     parted lines (subst (AreLookUps issuer lines) all_are are)
@@ -80,14 +80,14 @@ first-of issuer lines found all more all_are are =
     parted (line ∷ left) are = record { line = line; left = left; lines_are = refl; first = are.0; others = are.1 }
 
 -- the look-ups from a place on are the one there and those after it
-pub parted-at : (all : List (Result Sought Refusal)) (place : ℕ) (found : Result Sought Refusal)
+pub parted-at : (all : List (Result LookedUp Refusal)) (place : ℕ) (found : Result LookedUp Refusal)
     → slice_get all place ≡ Some found → drop place all ≡ found ∷ drop (place + 1) all
 parted-at all place found is =
     drop_more all place found (slice_get_within all place found is)
     ∙ ap (λ first. first ∷ drop (place + 1) all) (get_or_from_slice_get all place found found is)
 
 -- a line that waits was looked up
-pub found-there : {R : Type 0} (now : R → Result Sought Refusal) (found : Option R) (all : List (Result Sought Refusal))
+pub found-there : {R : Type 0} (now : R → Result LookedUp Refusal) (found : Option R) (all : List (Result LookedUp Refusal))
     (place : ℕ) → option_map now found ≡ slice_get all place → place < length all → IsSome found
 found-there now (Some found) all place is within = refl
 found-there now None [] place is within = absurd (omega (arith, within))
@@ -95,14 +95,14 @@ found-there now None (first ∷ all) place is within =
     absurd (let both : None ≡ Some (get_or (first ∷ all) place first) = is ∙ slice_get-get_or (first ∷ all) place first within in cc)
 
 -- no look-up is that of no line
-none-of : (issuer : Setup) (lines : List (List ℕ)) (all : List (Result Sought Refusal)) → all ≡ []
+none-of : (issuer : Setup) (lines : List (List ℕ)) (all : List (Result LookedUp Refusal)) → all ≡ []
     → AreLookUps issuer lines all → lines ≡ []
 none-of issuer [] all none are = refl
 none-of issuer (line ∷ lines) all none are = absurd (subst (AreLookUps issuer (line ∷ lines)) none are)
 
 -- one more
-pub look-ups-more : (issuer : Setup) (lines : List (List ℕ)) (line : List ℕ) (old new : List (Result Sought Refusal))
-    (found : Result Sought Refusal) → new ≡ old ++ found ∷ [] → IsLookUp issuer line found
+pub look-ups-more : (issuer : Setup) (lines : List (List ℕ)) (line : List ℕ) (old new : List (Result LookedUp Refusal))
+    (found : Result LookedUp Refusal) → new ≡ old ++ found ∷ [] → IsLookUp issuer line found
     → AreLookUps issuer lines old → AreLookUps issuer (lines ++ line ∷ []) new
 look-ups-more issuer lines line old new found new_is its are =
     subst (AreLookUps issuer (lines ++ line ∷ [])) (sym new_is)
@@ -139,7 +139,7 @@ module _ {S : Type 0} {G : Ghosts S} where
   }
 
   -- one more line waits
-  pub waits-more : (first : Solo S G) (old new : AloneHost S G) (line : List ℕ) (found : Result Sought Refusal)
+  pub waits-more : (first : Solo S G) (old new : AloneHost S G) (line : List ℕ) (found : Result LookedUp Refusal)
       → new.ahead ≡ old.ahead ++ found ∷ [] → new.host.issuer ≡ old.host.issuer
       → new.host.shards.items ≡ old.host.shards.items → IsLookUp old.host.issuer line found
       → (lines : List (List ℕ)) (text : List ℕ) (waiting : List (List ℕ)) → HasAnswered first lines text waiting old
@@ -152,10 +152,10 @@ module _ {S : Type 0} {G : Ghosts S} where
   -- a line is answered, and these wait then
   pub answers-more : (first : Solo S G) (old new : AloneHost S G) (line : List ℕ) (answer : Answer)
       → new.host.issuer ≡ old.host.issuer
-      → ((books : List Book) → Stand old.host.issuer old.host.shards.items books
-      → (after : List Book) × Stand new.host.issuer new.host.shards.items after
+      → ((books : List ShardBook) → Stand old.host.issuer old.host.shards.items books
+      → (after : List ShardBook) × Stand new.host.issuer new.host.shards.items after
       × Turn old.host.issuer books (reading old.host.issuer line) answer after)
-      → ((books : List Book) → Stand old.host.issuer old.host.shards.items books
+      → ((books : List ShardBook) → Stand old.host.issuer old.host.shards.items books
       → LeaveBetween old.host.issuer books books old.host.shards.items new.host.shards.items)
       → (lines : List (List ℕ)) (text : List ℕ) (waiting left : List (List ℕ))
       → HasAnswered first lines text waiting old → AreLookUps first.issuer left new.ahead
@@ -169,12 +169,12 @@ module _ {S : Type 0} {G : Ghosts S} where
         let r = so_far.run books begun in
         run-line first.issuer first.shards.items books lines so_far.answers old.host.shards.items new.host.shards.items
         r.0 line answer r.1
-        (subst (λ (i : Setup). (books : List Book) → Stand i old.host.shards.items books
-        → (after : List Book) × Stand i new.host.shards.items after
+        (subst (λ (i : Setup). (books : List ShardBook) → Stand i old.host.shards.items books
+        → (after : List ShardBook) × Stand i new.host.shards.items after
         × Turn i books (reading i line) answer after) so_far.issuer_is
         (λ books stands. let t = turn books stands in
         (t.0, subst (λ (i : Setup). Stand i new.host.shards.items t.0) same t.1, t.2)))
-        (subst (λ (i : Setup). (books : List Book) → Stand i old.host.shards.items books
+        (subst (λ (i : Setup). (books : List ShardBook) → Stand i old.host.shards.items books
         → LeaveBetween i books books old.host.shards.items new.host.shards.items)
         so_far.issuer_is leaves);
   }
@@ -183,10 +183,10 @@ module _ {S : Type 0} {G : Ghosts S} where
   pub takes-alone : (first : Solo S G) (old new : AloneHost S G) (line was_due is_due : List ℕ) (answer : Answer)
       → old.ahead ≡ [] → new.ahead ≡ [] → is_due ≡ was_due ++ printed answer
       → new.host.issuer ≡ old.host.issuer
-      → ((books : List Book) → Stand old.host.issuer old.host.shards.items books
-      → (after : List Book) × Stand new.host.issuer new.host.shards.items after
+      → ((books : List ShardBook) → Stand old.host.issuer old.host.shards.items books
+      → (after : List ShardBook) × Stand new.host.issuer new.host.shards.items after
       × Turn old.host.issuer books (reading old.host.issuer line) answer after)
-      → ((books : List Book) → Stand old.host.issuer old.host.shards.items books
+      → ((books : List ShardBook) → Stand old.host.issuer old.host.shards.items books
       → LeaveBetween old.host.issuer books books old.host.shards.items new.host.shards.items)
       → (lines : List (List ℕ)) (text : List ℕ) (waiting : List (List ℕ)) → HasAnswered first lines text waiting old
       → TakesLine (λ lines text waiting. HasAnswered first lines text waiting new) lines text waiting line was_due
@@ -275,13 +275,13 @@ module _ {S : Type 0} {G : Ghosts S} where
       }
 
   -- one more is answered, by its look-up
-  pub settling-more : (first : Solo S G) (old new : AloneHost S G) (found : Result Sought Refusal) (answer : Answer)
+  pub settling-more : (first : Solo S G) (old new : AloneHost S G) (found : Result LookedUp Refusal) (answer : Answer)
       → old.ahead ≡ found ∷ new.ahead → new.host.issuer ≡ old.host.issuer
       → ((line : List ℕ) → IsLookUp old.host.issuer line found
-      → (books : List Book) → Stand old.host.issuer old.host.shards.items books
-      → (after : List Book) × Stand new.host.issuer new.host.shards.items after
+      → (books : List ShardBook) → Stand old.host.issuer old.host.shards.items books
+      → (after : List ShardBook) × Stand new.host.issuer new.host.shards.items after
       × Turn old.host.issuer books (reading old.host.issuer line) answer after)
-      → ((books : List Book) → Stand old.host.issuer old.host.shards.items books
+      → ((books : List ShardBook) → Stand old.host.issuer old.host.shards.items books
       → LeaveBetween old.host.issuer books books old.host.shards.items new.host.shards.items)
       → (was_due mid_due is_due : List ℕ) → is_due ≡ mid_due ++ printed answer
       → (lines : List (List ℕ)) (text : List ℕ) (waiting : List (List ℕ))
@@ -359,7 +359,7 @@ module _ {S : Type 0} {G : Ghosts S} where
           let same : first.issuer ≡ issuer = ready.issuer_is in
           let ended =
           subst (λ (i : Setup). HasRun i first.shards.items begun.books [] [] first.shards.items begun.books
-          → (last : List Book) × HasRun i first.shards.items begun.books (map kept asked) so_far.answers
+          → (last : List ShardBook) × HasRun i first.shards.items begun.books (map kept asked) so_far.answers
           now.host.shards.items last) same
           (so_far.run begun.books) begun.has_run in
           let last = ended.0 in
@@ -400,7 +400,7 @@ module _ {S : Type 0} {G : Ghosts S} where
           lawful = lawful-loaded issuer prefix logs olds first.shards.items ready.shards shards sound;
           none = record {
             same_histories = refl;
-            none_told = λ shard book is.
+            none_reported = λ shard book is.
                 let within = slice_get_within begun.books shard book is in
                 let count = begun.has_run.stand.count_is in
                 let opened = ready.shards.loaded.count_is in

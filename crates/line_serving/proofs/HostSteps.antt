@@ -11,7 +11,7 @@ use Rattle.line_serving.specs.declared.alone.AloneHost.{AloneHost}
 use Rattle.line_serving.specs.declared.hosts.LineHost.{LineHost}
 use Rattle.line_serving.specs.declared.hosts.LineHost.TheVariants.{Alone, Together}
 use Rattle.desk_host.specs.Journals.{IsReadySolo}
-use Rattle.host_closing.specs.Leaving.{LeavesAnswered}
+use Rattle.line_serving.specs.Leaving.{LeavesAnswered}
 use Rattle.line_serving.specs.Hosts.{IsReadyTogether, HasAnswered, HaveAnswered}
 use Rattle.line_serving.specs.Hosts.{callers_of}
 use Rattle.line_serving.specs.Hosts.{IsReady, HasServed}

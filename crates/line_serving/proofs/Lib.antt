@@ -3,3 +3,11 @@ pub mod AloneSteps
 pub mod TogetherSteps
 pub mod LoadingTogether
 pub mod HostSteps
+pub mod LogBooks
+pub mod ReadAgain
+pub mod Ready
+pub mod Closing
+pub mod Judged
+mod KeptLines
+mod Feeding
+mod Counts

@@ -5,8 +5,8 @@ use Rattle.std.proofs.lemmas.Option.{slice_get_within}
 use Rattle.issuer_base.specs.declared.outside.store.Store.{Ghosts}
 use Rattle.issuer_setup.specs.IssuerSetup.{Setup}
 use Rattle.shard_book.specs.declared.replay.LoadFault.{LoadFault}
-use Rattle.one_caller.specs.Loading.{AreOnlyRead}
-use Rattle.call_steps.specs.OpeningLogs.{AllComeBack, HostComesBackTogether}
+use Rattle.host_loading.specs.Loading.{AreOnlyRead}
+use Rattle.shared_laws.specs.OpeningLogs.{AllComeBack, HostComesBackTogether}
 use Rattle.desk_host.specs.SeenStores.{Logged, journals_seen}
 use Rattle.desk_host.specs.Journals.{old_name, journal_name, HasAllOpened}
 use Rattle.desk_host.specs.Left.{LeavesJournal, LeaveJournals}

@@ -28,8 +28,8 @@ use Rattle.desk_host.specs.Configuration.{HasSoundParts}
 use Rattle.line_blocks.specs.Serving.{TakesLine, TakesAndWrites, WritesAnswers}
 use Rattle.line_serving.specs.Hosts.{IsReadyTogether, HaveAnswered}
 use Rattle.desk_host.specs.SeenStores.{Logged, journals_seen}
-use Rattle.host_closing.specs.Leaving.{LeavesAnswered, LeavesLoaded}
-use Rattle.host_closing.proofs.LogBooks.{leaves-together, leaves-loaded_together}
+use Rattle.line_serving.specs.Leaving.{LeavesAnswered, LeavesLoaded}
+use Rattle.line_serving.proofs.LogBooks.{leaves-together, leaves-loaded_together}
 
 -- ---- what it leaves, by what its close says
 

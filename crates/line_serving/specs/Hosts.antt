@@ -8,7 +8,7 @@ use Rattle.answer_text.specs.AnswerText.{printed}
 use Rattle.line_checks.specs.LookedUp.{AreLookUps}
 use Rattle.line_checks.specs.declared.lines_ahead.TheConstants.{MOST_AHEAD}
 use Rattle.one_caller.specs.declared.solo.Solo.{Solo}
-use Rattle.one_caller.specs.Books.{Book}
+use Rattle.host_loading.specs.Books.{ShardBook}
 use Rattle.one_caller.specs.Runs.{HasRun}
 use Rattle.shared_callers.specs.declared.lanes.Lanes.{Lanes}
 use Rattle.line_blocks.specs.declared.block.TheConstants.{BLOCK_LINES}
@@ -19,8 +19,8 @@ use Rattle.line_serving.specs.declared.hosts.LineHost.{LineHost}
 use Rattle.line_serving.specs.declared.hosts.LineHost.TheVariants.{Alone, Together}
 use Rattle.shared_callers.specs.Lanes.{issuer_in, opening_logs, callers_in, waiting_in, due_in, is_full_in, HasSameHost}
 use Rattle.shared_callers.specs.Lanes.{LanesServe}
-use Rattle.call_steps.specs.OpeningLogs.{AreOpenedFrom}
-use Rattle.one_caller.specs.Loading.{AreOnlyRead}
+use Rattle.shared_laws.specs.OpeningLogs.{AreOpenedFrom}
+use Rattle.host_loading.specs.Loading.{AreOnlyRead}
 use Rattle.desk_host.specs.Journals.{HasAllOpened, IsReadySolo}
 use Rattle.desk_host.specs.SeenStores.{Logged}
 
@@ -34,8 +34,8 @@ module _ {S : Type 0} {G : Ghosts S} where
     pub issuer_is : now.host.issuer ≡ first.issuer
     pub answers : List Answer
     pub text_is : text ≡ flat_map printed answers
-    pub run : (books : List Book) → HasRun first.issuer first.shards.items books [] [] first.shards.items books
-        → (last : List Book) × HasRun first.issuer first.shards.items books lines answers now.host.shards.items last
+    pub run : (books : List ShardBook) → HasRun first.issuer first.shards.items books [] [] first.shards.items books
+        → (last : List ShardBook) × HasRun first.issuer first.shards.items books lines answers now.host.shards.items last
 
   -- the lines that wait were looked up and are fewer than are checked together, and their answers fit a block that has
   -- the answers to so many lines

@@ -29,7 +29,7 @@ pub struct AloneHost<S: Store> {
 
 impl<S: Store> AloneHost<S> {
     ghost use Rattle.line_blocks.specs.Serving.{TakesLine, Settles, WritesAnswers};
-    ghost use Rattle.host_closing.specs.Leaving.{LeavesAnswered, LeavesLoaded};
+    ghost use Rattle.line_serving.specs.Leaving.{LeavesAnswered, LeavesLoaded};
     ghost use Rattle.line_serving.specs.Hosts.{HasAnswered};
     ghost use Rattle.line_serving.specs.Hosts.{MaySettleAlone, TakesMoreAlone};
 

@@ -27,7 +27,7 @@ pub enum LineHost<S: Store> {
 
 impl<S: Store> LineHost<S> {
     ghost use Rattle.line_blocks.specs.Serving.{TakesLine, TakesAndWrites, WritesAnswers};
-    ghost use Rattle.host_closing.specs.Leaving.{LeavesAnswered, LeavesLoaded};
+    ghost use Rattle.line_serving.specs.Leaving.{LeavesAnswered, LeavesLoaded};
     ghost use Rattle.line_serving.specs.Hosts.{callers_of, IsReady};
     ghost use Rattle.line_serving.specs.Hosts.{HasServed, MaySettle, HasRoom, IsSettled, IsIdle};
 

@@ -7,7 +7,7 @@ ghost use Rattle.line_reader.specs.Reading.{kept};
 ghost use Rattle.shared_callers.specs.Lanes.{callers_in, waiting_in};
 ghost use Rattle.desk_host.specs.Configuration.{HasSoundParts};
 ghost use Rattle.line_blocks.specs.Serving.{TakesAndWrites, WritesAnswers};
-ghost use Rattle.host_closing.specs.Leaving.{LeavesAnswered, LeavesLoaded};
+ghost use Rattle.line_serving.specs.Leaving.{LeavesAnswered, LeavesLoaded};
 ghost use Rattle.line_serving.specs.Hosts.{IsReadyTogether, HaveAnswered};
 ghost use Rattle.line_serving.specs.Hosts.{OwesNone, TakesMore};
 ghost use Rattle.desk_host.specs.SeenStores.{Logged, journals_seen};

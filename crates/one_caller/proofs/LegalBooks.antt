@@ -15,7 +15,8 @@ use Rattle.issuer_base.specs.declared.entry.Entry.TheVariants.{Decided}
 use Rattle.card_history.specs.declared.decision.Decision.{Decision}
 use Rattle.card_history.specs.LegalRecords.{IsLegal, IsLegalHistory}
 use Rattle.card_history.specs.OneReply.{record_at, reply_in, IsOfItsRecord, IsOncePerCounter}
-use Rattle.card_history.specs.Records.{CardName, card_of}
+use Rattle.issuer_base.specs.CardNames.{CardName}
+use Rattle.card_history.specs.Records.{card_of}
 use Rattle.card_history.proofs.CardNames.{is_of-same}
 use Rattle.card_history.proofs.LongerHistories.{slice_get-push}
 use Rattle.card_history.proofs.RecordPlaces.{recorded-decided}
@@ -25,9 +26,9 @@ use Rattle.shard_book.specs.Grounds.{IsCardOfShard, grounds_of, grounds_now}
 use Rattle.shard_book.proofs.Lines.{legal-more}
 use Rattle.shard_book.specs.Histories.{GoesOn}
 use Rattle.shard_book.proofs.Histories.{goes-none, goes-then}
-use Rattle.one_caller.specs.Books.{Book, histories_of}
+use Rattle.host_loading.specs.Books.{ShardBook, histories_of}
 use Rattle.one_caller.specs.OneHistory.{LegallyGoesOn, AreLegalBooks, LoadsAgain}
-use Rattle.one_caller.proofs.Places.{read-front, read-alone, read-within}
+use Rattle.host_loading.proofs.Places.{all-at, read-front, read-alone, read-within}
 use Rattle.one_caller.proofs.TurnSteps.{AddsAtMostOne}
 
 -- ---- going on
@@ -51,11 +52,6 @@ goes-alone : (first last : List Entry) → GoesOn first last → (place : ℕ) (
 goes-alone first last on place entry within is =
     read-alone first on.0 place entry within (subst (λ (last : List Entry). slice_get last place ≡ Some entry) on.1 is)
 
--- the entry with an index is a record
-pub recorded-at : (history : List Entry) → All IsRecord history → (place : ℕ) (entry : Entry) → slice_get history place ≡ Some entry → IsRecord entry
-recorded-at history all place entry is =
-    subst IsRecord (get_or_from_slice_get history place entry entry is) (all place entry (slice_get_within history place entry is))
-
 module _ (issuer : Setup) (shard : ℕ) where
   pub legally-none : (history : List Entry) → IsLegalHistory (grounds_of issuer) shard history → LegallyGoesOn issuer shard history history
   legally-none history legal = record {
@@ -71,7 +67,7 @@ module _ (issuer : Setup) (shard : ℕ) where
   legally-one before after again recorded legal (inr (entry, after_is, next)) =
       let last : slice_get after (length before) ≡ Some entry =
       ap (λ (after : List Entry). slice_get after (length before)) after_is ∙ slice_get-push before entry in
-      let record_is = recorded-at after recorded (length before) entry last in
+      let record_is = all-at IsRecord after recorded (length before) entry last in
       subst (λ (after : List Entry). LegallyGoesOn issuer shard before after) (sym after_is) (record {
         goes_on = (entry ∷ [], refl);
         legal = legal-more (grounds_of issuer) shard before entry legal (again shard before entry record_is next);
@@ -107,18 +103,18 @@ module _ (issuer : Setup) (shard : ℕ) where
 -- ---- what holds of legal histories
 
 -- the record with an index of a shard is one of its book's
-pub record-in_book : (books : List Book) (shard place : ℕ) (entry : Entry) → record_at (histories_of books) shard place ≡ Some entry
-    → (book : Book) × (slice_get books shard ≡ Some book) × (slice_get book.history place ≡ Some entry)
+pub record-in_book : (books : List ShardBook) (shard place : ℕ) (entry : Entry) → record_at (histories_of books) shard place ≡ Some entry
+    → (book : ShardBook) × (slice_get books shard ≡ Some book) × (slice_get book.history place ≡ Some entry)
 record-in_book [] shard place entry is = absurd (cc)
 record-in_book (book ∷ books) zero place entry is = (book, refl, is)
 record-in_book (book ∷ books) (suc shard) place entry is = record-in_book books shard place entry is
 
-pub record-of_book : (books : List Book) (shard place : ℕ) (entry : Entry) (book : Book) → slice_get books shard ≡ Some book
+pub record-of_book : (books : List ShardBook) (shard place : ℕ) (entry : Entry) (book : ShardBook) → slice_get books shard ≡ Some book
     → slice_get book.history place ≡ Some entry → record_at (histories_of books) shard place ≡ Some entry
 record-of_book [] shard place entry book there is = absurd (cc)
 record-of_book (other ∷ books) zero place entry book there is =
     let same : other ≡ book = let e : Some other ≡ Some book = there in cc in
-    ap (λ (book : Book). slice_get book.history place) same ∙ is
+    ap (λ (book : ShardBook). slice_get book.history place) same ∙ is
 record-of_book (other ∷ books) (suc shard) place entry book there is = record-of_book books shard place entry book there is
 
 -- an earlier record is one of those before a later one
@@ -162,7 +158,7 @@ one-home issuer shard other name home other_home =
     sym home.home ∙ ap (λ number. number % issuer.shards) same ∙ other_home.home
 
 -- in legal histories each ATC of a card is decided once
-pub legal-once : (issuer : Setup) (books : List Book) → AreLegalBooks issuer books → IsOncePerCounter (histories_of books)
+pub legal-once : (issuer : Setup) (books : List ShardBook) → AreLegalBooks issuer books → IsOncePerCounter (histories_of books)
 legal-once issuer books legal shard other_shard place other_place request other reply other_reply is other_is card counter =
     let one = record-in_book books shard place (Decided request reply) is in
     let two = record-in_book books other_shard other_place (Decided other other_reply) other_is in
@@ -171,13 +167,13 @@ legal-once issuer books legal shard other_shard place other_place request other 
     let same : shard ≡ other_shard =
     one-home issuer shard other_shard (card_of other) (subst (IsCardOfShard issuer shard) card first.of_a_card) second.of_a_card in
     let book : one.0 ≡ two.0 = same_Some one.0 two.0 (sym one.1 ∙ ap (slice_get books) same ∙ two.1) in
-    let there = subst (λ (book : Book). slice_get book.history place ≡ Some (Decided request reply)) book one.2 in
+    let there = subst (λ (book : ShardBook). slice_get book.history place ≡ Some (Decided request reply)) book one.2 in
     (same, once-in issuer other_shard two.0.history (legal other_shard two.0 two.1) place other_place request other reply other_reply there two.2 card counter)
 
 -- ---- replies and their records
 
-module _ (before after : List Book) (long : length after ≡ length before)
-    (on : (shard : ℕ) (was is : Book) → slice_get before shard ≡ Some was → slice_get after shard ≡ Some is → GoesOn was.history is.history) where
+module _ (before after : List ShardBook) (long : length after ≡ length before)
+    (on : (shard : ℕ) (was is : ShardBook) → slice_get before shard ≡ Some was → slice_get after shard ≡ Some is → GoesOn was.history is.history) where
   record-stays : (shard place : ℕ) (entry : Entry) → record_at (histories_of before) shard place ≡ Some entry
       → record_at (histories_of after) shard place ≡ Some entry
   record-stays shard place entry is =

@@ -1,13 +1,11 @@
 -- The lemmas of this crate.
-pub mod Places
 pub mod OneShard
 pub mod Asked
 pub mod TurnSteps
 pub mod LegalBooks
 pub mod OneRun
-pub mod Loads
-pub mod Together
 pub mod Rooms
 pub mod Shown
 pub mod Running
 pub mod Orders
+pub mod Restarts

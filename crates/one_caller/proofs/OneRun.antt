@@ -13,40 +13,41 @@ use Rattle.card_history.specs.declared.decision.Asked.TheVariants.{Decide}
 use Rattle.card_history.specs.OneReply.{IsOfItsRecord}
 use Rattle.card_history.proofs.CommandsInOrder.{in_order}
 use Rattle.issuer_setup.specs.IssuerSetup.{Setup}
+use Rattle.journal_rec.specs.Record.{IsRecord}
 use Rattle.line_checks.specs.Reading.{reading}
-use Rattle.one_caller.specs.Books.{Book, histories_of}
+use Rattle.host_loading.specs.Books.{ShardBook, histories_of}
 use Rattle.one_caller.specs.OneHistory.{LegallyGoesOn, GoOnLegally, AreLegalBooks, AreRecorded, LoadsAgain, IsAnswered, HasFailed, IsOneHistory}
 use Rattle.one_caller.specs.Turns.{Turn, Run}
-use Rattle.one_caller.proofs.Places.{read-within}
+use Rattle.host_loading.proofs.Places.{all-at, read-within}
 use Rattle.one_caller.proofs.Running.{HistoriesGoOn, run-on}
 use Rattle.one_caller.proofs.TurnSteps.{turn-adds, turn-failed, turn-recorded}
-use Rattle.one_caller.proofs.LegalBooks.{recorded-at, goes-stays, legally-none, legally-one, legally-then, legal-once, recorded-stays, one-reply}
+use Rattle.one_caller.proofs.LegalBooks.{goes-stays, legally-none, legally-one, legally-then, legal-once, recorded-stays, one-reply}
 
 -- ---- books that are extended
 
 -- the books are extended by valid successors, and there are as many as before
-pub record BooksGoOn (issuer : Setup) (first last : List Book) : Type 0 where
+pub record BooksGoOn (issuer : Setup) (first last : List ShardBook) : Type 0 where
   pub count_is : length last ≡ length first
   pub on : GoOnLegally issuer first last
 
 -- so the last ones are legal, where there were legal ones
-pub on-legal : (issuer : Setup) (first last : List Book) → BooksGoOn issuer first last → AreLegalBooks issuer last
+pub on-legal : (issuer : Setup) (first last : List ShardBook) → BooksGoOn issuer first last → AreLegalBooks issuer last
 on-legal issuer first last on shard is is_is =
     let below = slice_get_within last shard is is_is in
     let count = on.count_is in
     let was = read-within first shard (omega arith) in
     (on.on shard was.0 is was.1 is_is).0.legal
 
-books-none : (issuer : Setup) (books : List Book) → AreLegalBooks issuer books → BooksGoOn issuer books books
+books-none : (issuer : Setup) (books : List ShardBook) → AreLegalBooks issuer books → BooksGoOn issuer books books
 books-none issuer books legal = record {
   count_is = refl;
   on = λ shard was is was_is is_is.
       let same : was ≡ is = same_Some was is (sym was_is ∙ is_is) in
-      subst (λ (is : Book). LegallyGoesOn issuer shard was.history is.history × (was.faults ≤ is.faults)) same
+      subst (λ (is : ShardBook). LegallyGoesOn issuer shard was.history is.history × (was.faults ≤ is.faults)) same
       (legally-none issuer shard was.history (legal shard was was_is), omega arith);
 }
 
-books-then : (issuer : Setup) (first second third : List Book) → BooksGoOn issuer first second → BooksGoOn issuer second third → BooksGoOn issuer first third
+books-then : (issuer : Setup) (first second third : List ShardBook) → BooksGoOn issuer first second → BooksGoOn issuer second third → BooksGoOn issuer first third
 books-then issuer first second third on more =
     let count = on.count_is in
     let more_count = more.count_is in
@@ -62,7 +63,7 @@ books-then issuer first second third on more =
           );
     }
 
-books-turn : (issuer : Setup) → LoadsAgain issuer → (before : List Book) (line : List ℕ) (answer : Answer) (after : List Book)
+books-turn : (issuer : Setup) → LoadsAgain issuer → (before : List ShardBook) (line : List ℕ) (answer : Answer) (after : List ShardBook)
     → AreRecorded after → AreLegalBooks issuer before
     → Turn issuer before (reading issuer line) answer after → BooksGoOn issuer before after
 books-turn issuer again before line answer after recorded legal turn =
@@ -76,13 +77,13 @@ books-turn issuer again before line answer after recorded legal turn =
     }
 
 -- histories whose later ones have records alone have records alone
-recorded-before : (before after : List Book) → HistoriesGoOn before after → AreRecorded after → AreRecorded before
+recorded-before : (before after : List ShardBook) → HistoriesGoOn before after → AreRecorded after → AreRecorded before
 recorded-before before after on recorded shard book book_is place default within =
     let below = slice_get_within before shard book book_is in
     let count = on.count_is in
     let now = read-within after shard (omega arith) in
     let there = slice_get-get_or book.history place default within in
-    recorded-at now.0.history (recorded shard now.0 now.1) place (get_or book.history place default)
+    all-at IsRecord now.0.history (recorded shard now.0 now.1) place (get_or book.history place default)
     (goes-stays book.history now.0.history (on.on shard book now.0 book_is now.1) place (get_or book.history place default) there)
 
 -- ---- a store that failed
@@ -97,7 +98,7 @@ rose-later first old new last before during after =
     ])
 
 -- a count that rose in the middle rose over all
-failed-within : (issuer : Setup) (first before after last : List Book) → BooksGoOn issuer first before → BooksGoOn issuer before after
+failed-within : (issuer : Setup) (first before after last : List ShardBook) → BooksGoOn issuer first before → BooksGoOn issuer before after
     → BooksGoOn issuer after last → HasFailed before after → HasFailed first last
 failed-within issuer first before after last on during more failed =
     let below = slice_get_within before failed.shard failed.was failed.was_is in
@@ -121,16 +122,16 @@ failed-within issuer first before after last on during more failed =
 
 module _ (issuer : Setup) (again : LoadsAgain issuer) where
   -- what a run keeps
-  record RunKeeps (first : List Book) (lines : List (List ℕ)) (answers : List Answer) (last : List Book) : Type 0 where
+  record RunKeeps (first : List ShardBook) (lines : List (List ℕ)) (answers : List Answer) (last : List ShardBook) : Type 0 where
     on : BooksGoOn issuer first last
     recorded : (index : ℕ) (request : Request) (answer : Answer) → IsAnswered issuer lines answers index request answer
         → IsOfItsRecord (histories_of last) request answer
     blamed : (index : ℕ) → slice_get answers index ≡ Some (Refused StoreFault) → HasFailed first last
 
-  run-keeps : (first : List Book) (lines : List (List ℕ)) (answers : List Answer) (last : List Book) → AreRecorded last → AreLegalBooks issuer first
+  run-keeps : (first : List ShardBook) (lines : List (List ℕ)) (answers : List Answer) (last : List ShardBook) → AreRecorded last → AreLegalBooks issuer first
       → Run issuer first lines answers last → RunKeeps first lines answers last
   run-keeps first [] [] last recorded legal run =
-      subst (λ (last : List Book). RunKeeps first [] [] last) (sym run) (record {
+      subst (λ (last : List ShardBook). RunKeeps first [] [] last) (sym run) (record {
         on = books-none issuer first legal;
         recorded = λ index request answer answered. absurd (let none : None ≡ Some answered.line = answered.line_is in cc);
         blamed = λ index is. absurd (cc);
@@ -169,7 +170,7 @@ module _ (issuer : Setup) (again : LoadsAgain issuer) where
       }
 
   -- the law
-  pub run-one_history : (first last : List Book) (lines : List (List ℕ)) (answers : List Answer) → AreLegalBooks issuer first → AreRecorded last
+  pub run-one_history : (first last : List ShardBook) (lines : List (List ℕ)) (answers : List Answer) → AreLegalBooks issuer first → AreRecorded last
       → Run issuer first lines answers last → IsOneHistory issuer lines answers first last
   run-one_history first last lines answers legal recorded run =
       let kept = run-keeps first lines answers last recorded legal run in

@@ -10,22 +10,22 @@ use Rattle.issuer_base.proofs.ToldTwice.{BothTold-weaker}
 use Rattle.issuer_base.specs.declared.outside.store.Store.{Ghosts}
 use Rattle.issuer_base.specs.declared.answer.Answer.{Answer}
 use Rattle.issuer_base.specs.declared.entry.Entry.{Entry}
-use Rattle.card_history.specs.Records.{CardName}
+use Rattle.issuer_base.specs.CardNames.{CardName}
 use Rattle.issuer_setup.specs.IssuerSetup.{Setup, shard_of}
 use Rattle.journal_rec.specs.RecordText.{journal_text}
-use Rattle.record_store.specs.Holding.{Holds}
+use Rattle.journal_store.specs.Holding.{Holds}
 use Rattle.shard_book.specs.declared.shard.Shard.{Shard}
-use Rattle.shard_book.specs.Answering.{is_store_fault, told_after}
+use Rattle.shard_book.specs.Answering.{is_store_fault, reported_after}
 use Rattle.shard_book.specs.Calls.{AnswersBy, LeavesImages, KeepsCall}
 use Rattle.shard_book.specs.Grounds.{grounds_now, IsImageOf}
-use Rattle.shard_book.specs.Shards.{number_in, IsUnder, HasCard, disk_in, faults_in, told_in, IsUndoubted, HoldsHistory, StandsFor}
+use Rattle.shard_book.specs.Shards.{number_in, IsUnder, HasCard, disk_in, faults_in, reported_in, IsUndoubted, HoldsHistory, StandsFor}
 use Rattle.shard_book.proofs.ShardSteps.{crash-no_call}
 use Rattle.shard_book.specs.Histories.{GoesOn, IsImageBetween}
-use Rattle.one_caller.specs.Books.{Book}
-use Rattle.one_caller.specs.Hosts.{AreShards, StandsForBook, Stand}
+use Rattle.host_loading.specs.Books.{ShardBook}
+use Rattle.host_loading.specs.Hosts.{AreShards, StandsForBook, Stand}
 use Rattle.one_caller.specs.Runs.{LeaveBetween}
 use Rattle.one_caller.specs.Turns.{AnswersIn}
-use Rattle.one_caller.proofs.Places.{read-written, read-other, read-within}
+use Rattle.host_loading.proofs.Places.{read-written, read-other, read-within}
 
 -- a history extends itself
 pub goes-on_same : (first last : List Entry) → last ≡ first → GoesOn first last
@@ -60,7 +60,7 @@ module _ {S : Type 0} {G : Ghosts S} where
 
   -- a shard that stands for a history stands for its book
   pub stands-for_book : (issuer : Setup) (shard : Shard S G) (history : List Entry) → StandsFor issuer shard history → IsUndoubted shard
-      → StandsForBook issuer shard (record { history = history; faults = faults_in shard; told = told_in shard })
+      → StandsForBook issuer shard (record { history = history; faults = faults_in shard; reported = reported_in shard })
   stands-for_book issuer shard history stands undoubted = record {
     stands = stands;
     faults_are = refl;
@@ -87,11 +87,11 @@ module _ {S : Type 0} {G : Ghosts S} where
       (λ image is. image-same issuer number first last image same is) only)
 
   -- where no shard is called a crash leaves images of the histories
-  pub leave-uncalled : (issuer : Setup) (shards : List (Shard S G)) → AreShards issuer shards → (books : List Book) → Stand issuer shards books
+  pub leave-uncalled : (issuer : Setup) (shards : List (Shard S G)) → AreShards issuer shards → (books : List ShardBook) → Stand issuer shards books
       → LeaveBetween issuer books books shards shards
   leave-uncalled issuer shards are books stand number before after was is before_is after_is was_is is_is =
       let same : before ≡ after = same_Some before after (sym before_is ∙ after_is) in
-      let same_book : is.history ≡ was.history = ap (λ (book : Book). book.history) (same_Some is was (sym is_is ∙ was_is)) in
+      let same_book : is.history ≡ was.history = ap (λ (book : ShardBook). book.history) (same_Some is was (sym is_is ∙ was_is)) in
       between-same issuer number before after was.history is.history same_book
       (subst (λ (after : Shard S G). BothTold (LeavesOnly (IsImageOf (grounds_now issuer) number was.history)) (disk_in before) (disk_in after)) same
       (leaves-uncalled issuer number before was.history (are.numbers_are number before before_is) (stand.each number before was before_is was_is).stands))
@@ -135,17 +135,17 @@ module _ {S : Type 0} {G : Ghosts S} where
           ];
     }
 
-    module _ (books : List Book) (stand : Stand issuer shards books) where
+    module _ (books : List ShardBook) (stand : Stand issuer shards books) where
       -- the shards stand for books of which this shard's alone has changed, as the shard answers
-      pub turn-after : (after : List Book) × Stand issuer (set shards home new) after × AnswersIn issuer books name answer Changes after
+      pub turn-after : (after : List ShardBook) × Stand issuer (set shards home new) after × AnswersIn issuer books name answer Changes after
       turn-after =
           let count = stand.count_is in
           let book_within : home < length books = omega (arith, within, count) in
           let found = read-within books home book_within in
-          let book : Book = found.0 in
+          let book : ShardBook = found.0 in
           let its = stand.each home old book called.old_is found.1 in
           let answered = called.answers book.history its.stands in
-          let after : Book = record { history = answered.0; faults = faults_in new; told = told_in new } in
+          let after : ShardBook = record { history = answered.0; faults = faults_in new; reported = reported_in new } in
           let number_is : number_in old ≡ shard_of issuer name = are.numbers_are home old called.old_is ∙ called.home_is in (
             set books home after,
             record {
@@ -156,7 +156,7 @@ module _ {S : Type 0} {G : Ghosts S} where
                         let shard_at = there shard (subst (λ number. slice_get (set shards home new) number ≡ Some shard) same shard_is) in
                         let book_at : after ≡ other = same_Some after other (sym (read-written books home after book_within)
                         ∙ subst (λ number. slice_get (set books home after) number ≡ Some other) same other_is) in
-                        subst (λ (other : Book). StandsForBook issuer shard other) book_at
+                        subst (λ (other : ShardBook). StandsForBook issuer shard other) book_at
                         (subst (λ (shard : Shard S G). StandsForBook issuer shard after) shard_at
                         (stands-for_book issuer new answered.0 answered.1 (called.keeps.undoubted (are.undoubted home old called.old_is))))
                     | inr apart ↦
@@ -169,7 +169,7 @@ module _ {S : Type 0} {G : Ghosts S} where
               old_is = subst (λ number. slice_get books number ≡ Some book) called.home_is found.1;
               changes = subst (λ number. Changes number book.history answered.0) number_is answered.2;
               counts = subst (λ faults. CountsFaults faults (faults_in new) (is_store_fault answer)) its.faults_are called.keeps.counts;
-              told_is = called.keeps.told_is ∙ ap (λ told. told_after told (is_store_fault answer)) its.told_are;
+              told_is = called.keeps.told_is ∙ ap (λ told. reported_after told (is_store_fault answer)) its.told_are;
               after_is = ap (λ number. set books number after) called.home_is;
             },
           )
@@ -177,7 +177,7 @@ module _ {S : Type 0} {G : Ghosts S} where
       -- and a crash leaves images of the histories before the call
       pub crash-after : LeaveBetween issuer books books shards (set shards home new)
       crash-after number before after was is before_is after_is was_is is_is =
-          let same_book : is.history ≡ was.history = ap (λ (book : Book). book.history) (same_Some is was (sym is_is ∙ was_is)) in
+          let same_book : is.history ≡ was.history = ap (λ (book : ShardBook). book.history) (same_Some is was (sym is_is ∙ was_is)) in
           elim (cases_eq number home) [
             | inl same ↦
                 let old_at : old ≡ before = same_Some old before (sym called.old_is ∙ subst (λ number. slice_get shards number ≡ Some before) same before_is) in

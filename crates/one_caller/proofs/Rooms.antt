@@ -1,4 +1,4 @@
--- The room of a host's stores: what a line of a card uses of it, and what loading leaves.
+-- The room of a host's stores: what a line of a card uses of it.
 use Rattle.std.proofs.Common.{◌≡◌, ℕ, ◌+◌, ◌≤◌, if◌then◌else◌, Bool, false, List, ◌∷◌, ◌++◌, length, set, Some, Result, Err}
 use Rattle.std.proofs.Common.{refl, sym, ap, subst, ◌∙◌, inl, inr, arith, add-zero}
 use Rattle.std.proofs.lemmas.Bool.{cases_eq, eq-eqb}
@@ -15,25 +15,18 @@ use Rattle.issuer_setup.specs.IssuerSetup.{Setup}
 use Rattle.line_checks.specs.Reading.{checked, reading}
 use Rattle.shard_book.specs.declared.shard.Shard.{Shard}
 use Rattle.shard_book.specs.Answering.{is_store_fault}
-use Rattle.shard_book.specs.Loads.{HaveRoom as LoadHasRoom}
 use Rattle.shard_book.specs.Room.{Spares, UsesRoom}
-use Rattle.shard_book.specs.Shards.{store_in}
-use Rattle.shard_book.proofs.Rooms.{room-less}
-use Rattle.one_caller.specs.Loading.{AreLoaded}
-use Rattle.one_caller.specs.Room.{added_at, HaveRoom, StoresHaveRoom}
+use Rattle.host_loading.specs.StoreRoom.{HaveRoom}
+use Rattle.one_caller.specs.Room.{added_at}
 use Rattle.one_caller.proofs.Asked.{asks-no_store, checked-no_store}
-use Rattle.one_caller.proofs.Loads.{IsLoading, old-unread, shard-of}
-use Rattle.one_caller.proofs.Places.{read-behind, read-other, read-written}
+use Rattle.host_loading.proofs.StoreRooms.{spares-less}
+use Rattle.host_loading.proofs.Places.{read-other, read-written}
 
 -- what a record adds to its own shard
 added-home : (home most : ℕ) → added_at home most home ≡ most
 added-home home most = ap (λ (same : Bool). if same then most else 0) (eq-eqb home home refl)
 
 module _ {S : Type 0} {G : Ghosts S} where
-  -- less room than there is
-  spares-less : (more less : ℕ) (shard : Shard S G) → less ≤ more → Spares more shard → Spares less shard
-  spares-less more less shard enough has = room-less more less (G.size (store_in shard)) (G.room (store_in shard)) enough has
-
   -- no shard is called
   pub room-uncalled : (shards : List (Shard S G)) (spare : ℕ → ℕ) → HaveRoom (λ number. 0 + spare number) shards → HaveRoom spare shards
   room-uncalled shards spare have = record {
@@ -63,25 +56,6 @@ module _ {S : Type 0} {G : Ghosts S} where
               ];
         },
       )
-
-  -- the shards that were loaded have the room that their stores had
-  pub room-loaded : (issuer : Setup) (olds read stores : List S) (shards : List (Shard S G)) → AreLoaded issuer olds read stores shards → (spare : ℕ → ℕ)
-      → StoresHaveRoom G.size G.room spare olds stores → HaveRoom spare shards
-  room-loaded issuer olds read stores shards loaded spare have = record {
-    each = λ number shard is.
-        let its = shard-of issuer olds read stores shards loaded number shard is in
-        its.from.room (spare number) (have.each number its.old its.store its.old_is its.store_is);
-  }
-
-  -- the next stores that are loaded have room
-  pub room-next : (issuer : Setup) (olds read stores : List S) (shards : List (Shard S G)) (store : S) (ahead : List S)
-      → IsLoading issuer olds read stores shards (store ∷ ahead) → (old : S) → slice_get read (length shards) ≡ Some old
-      → StoresHaveRoom G.size G.room (λ _. 0) olds stores → LoadHasRoom 0 (G.size old) (G.room old) (G.size store) (G.room store)
-  room-next issuer olds read stores shards store ahead loading old old_is have =
-      let first = loading.first in
-      have.each (length shards) old store (old-unread issuer olds read stores shards store ahead loading old old old_is)
-      (ap (λ (all : List S). slice_get all (length shards)) loading.stores_are
-      ∙ ap (slice_get (first ++ store ∷ ahead)) (loading.count_is ∙ sym (add-zero (length first))) ∙ read-behind first (store ∷ ahead) 0)
 
 -- a refusal that isn't for a store's fault reports none
 no-fault : (refusal : Refusal) → (refusal ≡ StoreFault → ⊥) → is_store_fault (Refused refusal) ≡ false

@@ -14,26 +14,26 @@ use Rattle.issuer_base.specs.declared.outside.store.Store.{Ghosts}
 use Rattle.issuer_setup.specs.IssuerSetup.{Setup}
 use Rattle.journal_rec.specs.RecordText.{journal_text}
 use Rattle.line_checks.specs.Reading.{reading}
-use Rattle.record_store.specs.declared.journal.Journal.{Journal}
-use Rattle.record_store.specs.Holding.{Holds}
-use Rattle.record_store.specs.Images.{HasSafeText, IsImage}
-use Rattle.record_store.proofs.Passing.{leaves-image}
+use Rattle.journal_store.specs.declared.journal.Journal.{Journal}
+use Rattle.journal_store.specs.Holding.{Holds}
+use Rattle.journal_store.specs.Images.{HasSafeText, IsImage}
+use Rattle.journal_store.proofs.Passing.{leaves-image}
 use Rattle.shard_book.specs.declared.shard.Shard.{Shard}
 use Rattle.shard_book.specs.Grounds.{IsTail, grounds_now}
 use Rattle.shard_book.specs.Shards.{store_in, disk_in, faults_in, IsJournalOf, IsLoadImage}
 use Rattle.shard_book.specs.Histories.{GoesOn, IsImageBetween}
 use Rattle.shard_book.proofs.Histories.{goes-none, goes-then}
-use Rattle.one_caller.specs.Books.{Book}
-use Rattle.one_caller.specs.Hosts.{AreShards, StandsForBook, Stand}
+use Rattle.host_loading.specs.Books.{ShardBook}
+use Rattle.host_loading.specs.Hosts.{AreShards, StandsForBook, Stand}
 use Rattle.shard_book.specs.Loads.{IsLoadedFrom}
-use Rattle.one_caller.specs.Loading.{AreLoaded}
+use Rattle.host_loading.specs.Loading.{AreLoaded}
 use Rattle.one_caller.specs.OneHistory.{AreLegalBooks}
 use Rattle.one_caller.specs.Runs.{HoldsJournal, HoldJournals, LeaveBetween, HasRun}
 use Rattle.one_caller.specs.Turns.{Turn, Run}
-use Rattle.one_caller.proofs.Places.{read-within, read-map, choose}
+use Rattle.host_loading.proofs.Places.{read-within, read-map, choose}
 use Rattle.one_caller.proofs.TurnSteps.{turn-adds}
 use Rattle.one_caller.proofs.LegalBooks.{adds-goes_on}
-use Rattle.one_caller.proofs.Loads.{loaded-are, shard-of}
+use Rattle.host_loading.proofs.Loads.{loaded-are, shard-of}
 use Rattle.one_caller.proofs.OneShard.{leave-uncalled}
 
 -- ---- the books of shards that were loaded
@@ -42,17 +42,17 @@ use Rattle.one_caller.proofs.OneShard.{leave-uncalled}
 -- book's history, which is legal since that of the old store, and no answer reported a fault; until the store's disk was
 -- `opened`, a crash leaves what it might leave before, a prefix of the old history's text, or the history's text
 pub record IsBookOf {S : Type 0} (bytes : S → Option (List ℕ)) (disk : S → Option Disk) (faults : S → ℕ) (issuer : Setup) (number : ℕ) (old store : S)
-    (opened : Option Disk) (book : Book) : Type 0 where
+    (opened : Option Disk) (book : ShardBook) : Type 0 where
   pub old_history : List Entry
   pub journal_is : IsJournalOf issuer number (bytes old) (bytes store) old_history book.history
   pub leaves : BothTold (λ before after. LeavesOnly (IsLoadImage old_history book.history before.now) before after) (disk store) opened
   pub counts : CountsFaults (faults store) book.faults false
-  pub untold : book.told ≡ 0
+  pub untold : book.reported ≡ 0
 
 module _ {S : Type 0} {G : Ghosts S} where
   -- a shard that was loaded stands for the book of its history
   pub stands-loaded : (issuer : Setup) (number : ℕ) (old old_then store : S) (shard : Shard S G) → (from : IsLoadedFrom issuer number old old_then store shard)
-      → StandsForBook issuer shard (record { history = from.loaded.history; faults = faults_in shard; told = 0 })
+      → StandsForBook issuer shard (record { history = from.loaded.history; faults = faults_in shard; reported = 0 })
   stands-loaded issuer number old old_then store shard from = record {
     stands = from.loaded.stands;
     faults_are = refl;
@@ -62,7 +62,7 @@ module _ {S : Type 0} {G : Ghosts S} where
 
   book-loaded : (issuer : Setup) (number : ℕ) (old old_then store : S) (shard : Shard S G) → (from : IsLoadedFrom issuer number old old_then store shard)
       → IsBookOf G.bytes G.disk G.faults issuer number old store (disk_in shard)
-      (record { history = from.loaded.history; faults = faults_in shard; told = 0 })
+      (record { history = from.loaded.history; faults = faults_in shard; reported = 0 })
   book-loaded issuer number old old_then store shard from = record {
     old_history = from.loaded.old;
     journal_is = from.loaded.journal_is;
@@ -73,9 +73,9 @@ module _ {S : Type 0} {G : Ghosts S} where
 
   -- what a run begins with: the books of the stores
   pub record Begins (issuer : Setup) (olds stores : List S) (shards : List (Shard S G)) : Type 0 where
-    pub books : List Book
+    pub books : List ShardBook
     pub has_run : HasRun issuer shards books [] [] shards books
-    pub books_are : (number : ℕ) (old store : S) (shard : Shard S G) (book : Book) → slice_get olds number ≡ Some old
+    pub books_are : (number : ℕ) (old store : S) (shard : Shard S G) (book : ShardBook) → slice_get olds number ≡ Some old
         → slice_get stores number ≡ Some store → slice_get shards number ≡ Some shard → slice_get books number ≡ Some book
         → IsBookOf G.bytes G.disk G.faults issuer number old store (disk_in shard) book
 
@@ -84,12 +84,12 @@ module _ {S : Type 0} {G : Ghosts S} where
       → AreLoaded issuer olds read stores shards → Begins issuer olds stores shards
   run-none issuer olds read stores shards long loaded =
       let count = loaded.count_is in
-      let P : ℕ → Shard S G → Book → Type 0 = λ number shard book.
+      let P : ℕ → Shard S G → ShardBook → Type 0 = λ number shard book.
       (old store : S) → slice_get olds number ≡ Some old → slice_get stores number ≡ Some store
       → StandsForBook issuer shard book × IsBookOf G.bytes G.disk G.faults issuer number old store (disk_in shard) book in
       let made = choose shards P (λ number shard shard_is.
       let its = shard-of issuer olds read stores shards loaded number shard shard_is in
-      let book : Book = record { history = its.from.loaded.history; faults = faults_in shard; told = 0 } in (
+      let book : ShardBook = record { history = its.from.loaded.history; faults = faults_in shard; reported = 0 } in (
         book,
         λ old store old_is store_is.
             subst (λ (old : S). StandsForBook issuer shard book × IsBookOf G.bytes G.disk G.faults issuer number old store (disk_in shard) book)
@@ -128,22 +128,22 @@ begins-legal issuer olds read stores shards loaded begins number book book_is =
 -- ---- one more line
 
 -- a run is extended by a turn at its end
-run-more : (issuer : Setup) (first : List Book) (lines : List (List ℕ)) (answers : List Answer) (between : List Book) (line : List ℕ) (answer : Answer)
-    (after : List Book) → Run issuer first lines answers between → Turn issuer between (reading issuer line) answer after
+run-more : (issuer : Setup) (first : List ShardBook) (lines : List (List ℕ)) (answers : List Answer) (between : List ShardBook) (line : List ℕ) (answer : Answer)
+    (after : List ShardBook) → Run issuer first lines answers between → Turn issuer between (reading issuer line) answer after
     → Run issuer first (lines ++ line ∷ []) (answers ++ answer ∷ []) after
 run-more issuer first [] [] between line answer after so_far turn =
-    (after, subst (λ (start : List Book). Turn issuer start (reading issuer line) answer after) so_far turn, refl)
+    (after, subst (λ (start : List ShardBook). Turn issuer start (reading issuer line) answer after) so_far turn, refl)
 run-more issuer first [] (given ∷ answers) between line answer after so_far turn = absurd so_far
 run-more issuer first (other ∷ lines) [] between line answer after so_far turn = absurd so_far
 run-more issuer first (other ∷ lines) (given ∷ answers) between line answer after so_far turn =
     (so_far.0, so_far.1, run-more issuer so_far.0 lines answers between line answer after so_far.2 turn)
 
 -- over a run each history is extended, and there are as many books as before
-pub record HistoriesGoOn (first last : List Book) : Type 0 where
+pub record HistoriesGoOn (first last : List ShardBook) : Type 0 where
   pub count_is : length last ≡ length first
-  pub on : (number : ℕ) (was is : Book) → slice_get first number ≡ Some was → slice_get last number ≡ Some is → GoesOn was.history is.history
+  pub on : (number : ℕ) (was is : ShardBook) → slice_get first number ≡ Some was → slice_get last number ≡ Some is → GoesOn was.history is.history
 
-turn-on : (issuer : Setup) (before : List Book) (line : List ℕ) (answer : Answer) (after : List Book) → Turn issuer before (reading issuer line) answer after
+turn-on : (issuer : Setup) (before : List ShardBook) (line : List ℕ) (answer : Answer) (after : List ShardBook) → Turn issuer before (reading issuer line) answer after
     → HistoriesGoOn before after
 turn-on issuer before line answer after turn =
     let adds = turn-adds issuer before line answer after (reading issuer line) refl turn in
@@ -152,12 +152,12 @@ turn-on issuer before line answer after turn =
       on = λ number was is was_is is_is. adds-goes_on issuer number was.history is.history (adds.adds number was is was_is is_is);
     }
 
-pub run-on : (issuer : Setup) (first : List Book) (lines : List (List ℕ)) (answers : List Answer) (last : List Book) → Run issuer first lines answers last
+pub run-on : (issuer : Setup) (first : List ShardBook) (lines : List (List ℕ)) (answers : List Answer) (last : List ShardBook) → Run issuer first lines answers last
     → HistoriesGoOn first last
-run-on issuer first [] [] last run = subst (λ (last : List Book). HistoriesGoOn first last) (sym run) (record {
+run-on issuer first [] [] last run = subst (λ (last : List ShardBook). HistoriesGoOn first last) (sym run) (record {
   count_is = refl;
   on = λ number was is was_is is_is.
-      subst (λ (is : Book). GoesOn was.history is.history) (same_Some was is (sym was_is ∙ is_is)) (goes-none was.history);
+      subst (λ (is : ShardBook). GoesOn was.history is.history) (same_Some was is (sym was_is ∙ is_is)) (goes-none was.history);
 })
 run-on issuer first [] (answer ∷ answers) last run = absurd run
 run-on issuer first (line ∷ lines) [] last run = absurd run
@@ -183,9 +183,9 @@ image-wider issuer shard first from until last image before after is = record {
   image_is = is.image_is;
 }
 
-module _ {S : Type 0} {G : Ghosts S} (issuer : Setup) (loaded : List (Shard S G)) (first : List Book) (lines : List (List ℕ)) (answers : List Answer)
-    (now : List (Shard S G)) (books : List Book) (run : HasRun issuer loaded first lines answers now books) where
-  leave-more : (new : List (Shard S G)) (after : List Book) → Stand issuer new after → HistoriesGoOn books after
+module _ {S : Type 0} {G : Ghosts S} (issuer : Setup) (loaded : List (Shard S G)) (first : List ShardBook) (lines : List (List ℕ)) (answers : List Answer)
+    (now : List (Shard S G)) (books : List ShardBook) (run : HasRun issuer loaded first lines answers now books) where
+  leave-more : (new : List (Shard S G)) (after : List ShardBook) → Stand issuer new after → HistoriesGoOn books after
       → LeaveBetween issuer books books now new → LeaveBetween issuer first after loaded new
   leave-more new after stand on leave number before later was is before_is later_is was_is is_is =
       let below = slice_get_within after number is is_is in
@@ -208,7 +208,7 @@ module _ {S : Type 0} {G : Ghosts S} (issuer : Setup) (loaded : List (Shard S G)
       (λ image. image-wider issuer number was.history book.0.history book.0.history is.history image so_far more) q)) one two
 
   -- one more line was answered
-  pub has_run-more : (line : List ℕ) (answer : Answer) (new : List (Shard S G)) (after : List Book) → Stand issuer new after
+  pub has_run-more : (line : List ℕ) (answer : Answer) (new : List (Shard S G)) (after : List ShardBook) → Stand issuer new after
       → Turn issuer books (reading issuer line) answer after → LeaveBetween issuer books books now new
       → HasRun issuer loaded first (lines ++ line ∷ []) (answers ++ answer ∷ []) new after
   has_run-more line answer new after stand turn leave = record {
@@ -225,9 +225,9 @@ safe-left : (text tail : List ℕ) (disk : Option Disk) → IfSome disk (λ disk
 safe-left text tail None safe = tt
 safe-left text tail (Some disk) safe = λ image left. leaves-image text tail disk.now image safe left
 
-module _ {S : Type 0} {G : Ghosts S} (issuer : Setup) (number : ℕ) (book : Book) (journal : Journal S G) where
+module _ {S : Type 0} {G : Ghosts S} (issuer : Setup) (number : ℕ) (book : ShardBook) (journal : Journal S G) where
   -- a store holds the journal of its shard's book
-  pub holds-with : (tail : List ℕ) → IsTail (grounds_now issuer) number book.history tail → (book.told ≡ 0 → tail ≡ [])
+  pub holds-with : (tail : List ℕ) → IsTail (grounds_now issuer) number book.history tail → (book.reported ≡ 0 → tail ≡ [])
       → Holds journal (length book.history) (journal_text book.history) tail → HoldsJournal issuer number book (G.bytes journal.store) (G.disk journal.store)
   holds-with tail tail_is none holds = record {
     tail = tail;
@@ -237,22 +237,22 @@ module _ {S : Type 0} {G : Ghosts S} (issuer : Setup) (number : ℕ) (book : Boo
     leaves = safe-left (journal_text book.history) tail (G.disk journal.store) holds.disk_is;
   }
 
-  holds-told : (told : ℕ) (tail : List ℕ) → book.told ≡ told → IsTail (grounds_now issuer) number book.history tail
+  holds-told : (told : ℕ) (tail : List ℕ) → book.reported ≡ told → IsTail (grounds_now issuer) number book.history tail
       → Holds journal (length book.history) (journal_text book.history) tail
-      → (book.told ≡ 0 → Holds journal (length book.history) (journal_text book.history) [])
+      → (book.reported ≡ 0 → Holds journal (length book.history) (journal_text book.history) [])
       → HoldsJournal issuer number book (G.bytes journal.store) (G.disk journal.store)
   holds-told zero tail told_is tail_is holds settled = holds-with [] (inl refl) (λ untold. refl) (settled told_is)
   holds-told (suc told) tail told_is tail_is holds settled =
       holds-with tail tail_is (λ untold. let no = untold in absurd (omega (arith, told_is, no))) holds
 
-module _ {S : Type 0} {G : Ghosts S} (issuer : Setup) (shards : List (Shard S G)) (books : List Book) (are : AreShards issuer shards)
+module _ {S : Type 0} {G : Ghosts S} (issuer : Setup) (shards : List (Shard S G)) (books : List ShardBook) (are : AreShards issuer shards)
     (stand : Stand issuer shards books) where
-  pub holds-journal : (number : ℕ) (shard : Shard S G) (book : Book) → slice_get shards number ≡ Some shard → slice_get books number ≡ Some book
+  pub holds-journal : (number : ℕ) (shard : Shard S G) (book : ShardBook) → slice_get shards number ≡ Some shard → slice_get books number ≡ Some book
       → HoldsJournal issuer number book (G.bytes (store_in shard)) (G.disk (store_in shard))
   holds-journal number shard book shard_is book_is =
       let its = stand.each number shard book shard_is book_is in
       let holds = its.stands.journal_holds in
-      holds-told issuer number book shard.journal book.told holds.tail refl
+      holds-told issuer number book shard.journal book.reported holds.tail refl
       (subst (λ number. IsTail (grounds_now issuer) number book.history holds.tail) (are.numbers_are number shard shard_is) holds.tail_is)
       holds.holds its.settled
 

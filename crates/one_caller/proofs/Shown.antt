@@ -9,10 +9,10 @@ use Rattle.issuer_setup.specs.IssuerSetup.{Setup, shard_of}
 use Rattle.issuer_setup.proofs.CardListLemmas.{number_of-first}
 use Rattle.issuer_setup.proofs.Names.{name_at-get_or, name_at-slice_get}
 use Rattle.issuer_setup.proofs.Shards.{shard_of-known}
-use Rattle.row_core.specs.CardRow.{CardRow, StandsFor as RowStandsFor}
+use Rattle.shard_book.specs.CardRow.{CardRow, StandsFor as RowStandsFor}
 use Rattle.shard_book.specs.declared.shard.Shard.{Shard}
-use Rattle.one_caller.specs.Books.{Book}
-use Rattle.one_caller.specs.Hosts.{AreShards, Stand}
+use Rattle.host_loading.specs.Books.{ShardBook}
+use Rattle.host_loading.specs.Hosts.{AreShards, Stand}
 use Rattle.one_caller.proofs.OneShard.{card-at_home}
 
 -- a card's name determines its number
@@ -29,7 +29,7 @@ number-known cards number card valid is =
 module _ {S : Type 0} {G : Ghosts S} (issuer : Setup) (shards : List (Shard S G)) (are : AreShards issuer shards) (valid : AreCards issuer.cards)
     (card home : ℕ) (home_is : home ≡ card % issuer.shards) (shard : Shard S G) (shard_is : slice_get shards home ≡ Some shard) (row : CardRow)
     (row_is : slice_get shard.rows.rows (card / shard.rows.shards) ≡ Some row) where
-  pub row-of : (books : List Book) (info : CardInfo) (book : Book) → Stand issuer shards books → slice_get issuer.cards card ≡ Some info
+  pub row-of : (books : List ShardBook) (info : CardInfo) (book : ShardBook) → Stand issuer shards books → slice_get issuer.cards card ≡ Some info
       → slice_get books (shard_of issuer (name_of info)) ≡ Some book → RowStandsFor info row book.history
   row-of books info book stand info_is book_is =
       let known = number-known issuer.cards card info valid info_is in

@@ -18,20 +18,21 @@ use Rattle.card_history.specs.declared.decision.Asked.TheVariants.{Decide, Queue
 use Rattle.card_history.specs.declared.decision.Decision.{Decision}
 use Rattle.card_history.specs.LegalRecords.{IsLegal}
 use Rattle.card_history.specs.OneReply.{record_at, IsOfItsRecord}
-use Rattle.card_history.specs.Records.{CardName, named, card_of}
+use Rattle.issuer_base.specs.CardNames.{CardName, named}
+use Rattle.card_history.specs.Records.{card_of}
 use Rattle.card_history.proofs.LongerHistories.{slice_get-push}
 use Rattle.card_history.proofs.RecordPlaces.{decided-recorded}
 use Rattle.issuer_setup.specs.IssuerSetup.{Setup, shard_of}
 use Rattle.line_checks.specs.Reading.{reading}
-use Rattle.row_core.specs.Replying.{reply_to}
+use Rattle.shard_book.specs.Replying.{reply_to}
 use Rattle.shard_book.specs.Answering.{is_store_fault, AnswersClaimed, AnswersQueueing, AnswersSetting}
 use Rattle.shard_book.specs.Grounds.{grounds_now}
 use Rattle.shard_book.proofs.LegalDecisions.{legal-own}
-use Rattle.one_caller.specs.Books.{Book, histories_of}
+use Rattle.host_loading.specs.Books.{ShardBook, histories_of}
 use Rattle.one_caller.specs.OneHistory.{HasFailed}
 use Rattle.one_caller.specs.Turns.{AnswersIn, Turn}
 use Rattle.one_caller.proofs.Asked.{AsksRequest, AsksCommand, AsksStatus, asks-request, asks-command, asks-status, asks-no_store}
-use Rattle.one_caller.proofs.Places.{read-written, read-other, read-map}
+use Rattle.host_loading.proofs.Places.{read-written, read-other, read-map}
 
 -- the history is as it was, or has one record more, a valid successor by the issuer's own decision
 abbrev pub AddsAtMostOne : Setup → ℕ → List Entry → List Entry → Type 0
@@ -76,20 +77,20 @@ setting-adds issuer before name status _ after asks turn = absurd turn
 -- ---- the books after a turn
 
 -- what a turn does to the books: each history has at most one record more, and no count of faults fell
-pub record TurnAdds (issuer : Setup) (before after : List Book) : Type 0 where
+pub record TurnAdds (issuer : Setup) (before after : List ShardBook) : Type 0 where
   pub count_is : length after ≡ length before
-  pub adds : (shard : ℕ) (was is : Book) → slice_get before shard ≡ Some was → slice_get after shard ≡ Some is
+  pub adds : (shard : ℕ) (was is : ShardBook) → slice_get before shard ≡ Some was → slice_get after shard ≡ Some is
       → AddsAtMostOne issuer shard was.history is.history
-  pub counts : (shard : ℕ) (was is : Book) → slice_get before shard ≡ Some was → slice_get after shard ≡ Some is → was.faults ≤ is.faults
+  pub counts : (shard : ℕ) (was is : ShardBook) → slice_get before shard ≡ Some was → slice_get after shard ≡ Some is → was.faults ≤ is.faults
 
-same-adds : (issuer : Setup) (before after : List Book) → after ≡ before → TurnAdds issuer before after
+same-adds : (issuer : Setup) (before after : List ShardBook) → after ≡ before → TurnAdds issuer before after
 same-adds issuer before after same = subst (TurnAdds issuer before) (sym same) (record {
   count_is = refl;
-  adds = λ shard was is was_is is_is. inl (ap (λ (book : Book). book.history) (same_Some is was (sym is_is ∙ was_is)));
-  counts = λ shard was is was_is is_is. let both = ap (λ (book : Book). book.faults) (same_Some is was (sym is_is ∙ was_is)) in omega arith;
+  adds = λ shard was is was_is is_is. inl (ap (λ (book : ShardBook). book.history) (same_Some is was (sym is_is ∙ was_is)));
+  counts = λ shard was is was_is is_is. let both = ap (λ (book : ShardBook). book.faults) (same_Some is was (sym is_is ∙ was_is)) in omega arith;
 })
 
-module _ (issuer : Setup) (before : List Book) (name : CardName) (answer : Answer) (Changes : ℕ → List Entry → List Entry → Type 0) (after : List Book)
+module _ (issuer : Setup) (before : List ShardBook) (name : CardName) (answer : Answer) (Changes : ℕ → List Entry → List Entry → Type 0) (after : List ShardBook)
     (answers : AnswersIn issuer before name answer Changes after) where
   home : ℕ
   home = shard_of issuer name
@@ -98,18 +99,18 @@ module _ (issuer : Setup) (before : List Book) (name : CardName) (answer : Answe
   book-there : slice_get after home ≡ Some answers.new
   unfolding home
   book-there =
-      subst (λ (after : List Book). slice_get after home ≡ Some answers.new) (sym answers.after_is)
+      subst (λ (after : List ShardBook). slice_get after home ≡ Some answers.new) (sym answers.after_is)
       (read-written before home answers.new (slice_get_within before home answers.old answers.old_is))
 
-  book-other : (shard : ℕ) (is : Book) → shard ≢ home → slice_get after shard ≡ Some is → slice_get before shard ≡ Some is
+  book-other : (shard : ℕ) (is : ShardBook) → shard ≢ home → slice_get after shard ≡ Some is → slice_get before shard ≡ Some is
   unfolding home
   book-other shard is apart is_is =
-      sym (read-other before home answers.new shard apart) ∙ sym (ap (λ (after : List Book). slice_get after shard) answers.after_is) ∙ is_is
+      sym (read-other before home answers.new shard apart) ∙ sym (ap (λ (after : List ShardBook). slice_get after shard) answers.after_is) ∙ is_is
 
   pub in_shard-adds : AddsAtMostOne issuer (shard_of issuer name) answers.old.history answers.new.history → TurnAdds issuer before after
   unfolding home
   in_shard-adds adds = record {
-    count_is = ap (λ (after : List Book). length after) answers.after_is ∙ length-set before home answers.new;
+    count_is = ap (λ (after : List ShardBook). length after) answers.after_is ∙ length-set before home answers.new;
     adds = λ shard was is was_is is_is.
         elim (cases_eq shard home) [
           | inl same ↦
@@ -117,10 +118,10 @@ module _ (issuer : Setup) (before : List Book) (name : CardName) (answer : Answe
               same_Some answers.old was (sym answers.old_is ∙ subst (λ shard. slice_get before shard ≡ Some was) same was_is) in
               let is_at : answers.new ≡ is = same_Some answers.new is (sym book-there ∙ subst (λ shard. slice_get after shard ≡ Some is) same is_is) in
               subst (λ shard. AddsAtMostOne issuer shard was.history is.history) (sym same)
-              (subst (λ (was : Book). AddsAtMostOne issuer home was.history is.history) was_at
-              (subst (λ (is : Book). AddsAtMostOne issuer home answers.old.history is.history) is_at adds))
+              (subst (λ (was : ShardBook). AddsAtMostOne issuer home was.history is.history) was_at
+              (subst (λ (is : ShardBook). AddsAtMostOne issuer home answers.old.history is.history) is_at adds))
           | inr apart ↦
-              inl (ap (λ (book : Book). book.history) (same_Some is was (sym (book-other shard is apart is_is) ∙ was_is)))
+              inl (ap (λ (book : ShardBook). book.history) (same_Some is was (sym (book-other shard is apart is_is) ∙ was_is)))
         ];
     counts = λ shard was is was_is is_is.
         elim (cases_eq shard home) [
@@ -128,10 +129,10 @@ module _ (issuer : Setup) (before : List Book) (name : CardName) (answer : Answe
               let was_at : answers.old ≡ was =
               same_Some answers.old was (sym answers.old_is ∙ subst (λ shard. slice_get before shard ≡ Some was) same was_is) in
               let is_at : answers.new ≡ is = same_Some answers.new is (sym book-there ∙ subst (λ shard. slice_get after shard ≡ Some is) same is_is) in
-              subst (λ (was : Book). was.faults ≤ is.faults) was_at
-              (subst (λ (is : Book). answers.old.faults ≤ is.faults) is_at answers.counts.never_falls)
+              subst (λ (was : ShardBook). was.faults ≤ is.faults) was_at
+              (subst (λ (is : ShardBook). answers.old.faults ≤ is.faults) is_at answers.counts.never_falls)
           | inr apart ↦
-              let both = ap (λ (book : Book). book.faults) (same_Some is was (sym (book-other shard is apart is_is) ∙ was_is)) in
+              let both = ap (λ (book : ShardBook). book.faults) (same_Some is was (sym (book-other shard is apart is_is) ∙ was_is)) in
               omega arith
         ];
   }
@@ -153,11 +154,11 @@ module _ (issuer : Setup) (before : List Book) (name : CardName) (answer : Answe
   pub history-there : slice_index_or (histories_of after) (shard_of issuer name) [] ≡ answers.new.history
   unfolding home
   history-there =
-      get_or_from_slice_get (histories_of after) home answers.new.history [] (read-map (λ (book : Book). book.history) after home answers.new book-there)
+      get_or_from_slice_get (histories_of after) home answers.new.history [] (read-map (λ (book : ShardBook). book.history) after home answers.new book-there)
 
 -- ---- one turn
 
-module _ (issuer : Setup) (before : List Book) (line : List ℕ) (answer : Answer) (after : List Book) where
+module _ (issuer : Setup) (before : List ShardBook) (line : List ℕ) (answer : Answer) (after : List ShardBook) where
   pub turn-adds : (says : Result Asked Refusal) → reading issuer line ≡ says → Turn issuer before says answer after → TurnAdds issuer before after
   turn-adds (Ok (Decide request)) read turn =
       in_shard-adds issuer before (card_of request) answer _ after turn
@@ -204,7 +205,7 @@ claimed-recorded issuer histories home before request (Set at place) after here 
 claimed-recorded issuer histories home before request (Refused refusal) after here turn = tt
 
 -- the answer to a request is that of its record
-pub turn-recorded : (issuer : Setup) (before : List Book) (request : Request) (answer : Answer) (after : List Book)
+pub turn-recorded : (issuer : Setup) (before : List ShardBook) (request : Request) (answer : Answer) (after : List ShardBook)
     → Turn issuer before (Ok (Decide request)) answer after → IsOfItsRecord (histories_of after) request answer
 turn-recorded issuer before request answer after turn =
     claimed-recorded issuer (histories_of after) (shard_of issuer (card_of request)) turn.old.history request answer turn.new.history

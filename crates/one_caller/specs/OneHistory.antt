@@ -10,14 +10,14 @@ use Rattle.issuer_base.specs.declared.entry.Entry.{Entry}
 use Rattle.card_history.specs.declared.decision.Asked.TheVariants.{Decide}
 use Rattle.card_history.specs.LegalRecords.{IsLegal, IsLegalHistory}
 use Rattle.card_history.specs.OneReply.{IsOncePerCounter, IsOfItsRecord, reply_in}
-use Rattle.card_history.specs.Records.{CardName}
+use Rattle.issuer_base.specs.CardNames.{CardName}
 use Rattle.card_history.specs.ScriptOrder.{AreInOrder}
 use Rattle.issuer_setup.specs.IssuerSetup.{Setup}
 use Rattle.journal_rec.specs.Record.{IsRecord}
 use Rattle.line_checks.specs.Reading.{reading}
 use Rattle.shard_book.specs.Grounds.{grounds_of, grounds_now}
 use Rattle.shard_book.specs.Histories.{GoesOn, IsLegalSince}
-use Rattle.one_caller.specs.Books.{Book, histories_of}
+use Rattle.host_loading.specs.Books.{ShardBook, histories_of}
 
 -- the history is extended by legal records, and each of the new decisions is that of the issuer's table
 pub record LegallyGoesOn (issuer : Setup) (shard : ℕ) (first last : List Entry) : Type 0 where
@@ -33,20 +33,20 @@ pub record LegalFrom (issuer : Setup) (shard : ℕ) (old first last : List Entry
   pub goes_on : LegallyGoesOn issuer shard first last
 
 -- each shard's history is extended legally, and its store's fault count never fell
-abbrev pub GoOnLegally : Setup → List Book → List Book → Type 0
+abbrev pub GoOnLegally : Setup → List ShardBook → List ShardBook → Type 0
 GoOnLegally issuer first last =
-    (shard : ℕ) (was is : Book) → slice_get first shard ≡ Some was → slice_get last shard ≡ Some is
+    (shard : ℕ) (was is : ShardBook) → slice_get first shard ≡ Some was → slice_get last shard ≡ Some is
     → LegallyGoesOn issuer shard was.history is.history × (was.faults ≤ is.faults)
 
 -- the history of each shard is legal
-abbrev pub AreLegalBooks : Setup → List Book → Type 0
+abbrev pub AreLegalBooks : Setup → List ShardBook → Type 0
 AreLegalBooks issuer books =
-    (shard : ℕ) (book : Book) → slice_get books shard ≡ Some book
+    (shard : ℕ) (book : ShardBook) → slice_get books shard ≡ Some book
     → IsLegalHistory (grounds_of issuer) shard book.history
 
 -- each entry of the histories is a record, as the program holds them
-abbrev pub AreRecorded : List Book → Type 0
-AreRecorded books = (shard : ℕ) (book : Book) → slice_get books shard ≡ Some book → All IsRecord book.history
+abbrev pub AreRecorded : List ShardBook → Type 0
+AreRecorded books = (shard : ℕ) (book : ShardBook) → slice_get books shard ≡ Some book → All IsRecord book.history
 
 -- a record that is a valid successor by the issuer's own decision is a valid successor when it is loaded again
 abbrev pub LoadsAgain : Setup → Type 0
@@ -63,16 +63,16 @@ pub record IsAnswered (issuer : Setup) (lines : List (List ℕ)) (answers : List
   pub answer_is : slice_get answers index ≡ Some answer
 
 -- some store failed: its fault count increased
-pub record HasFailed (first last : List Book) : Type 0 where
+pub record HasFailed (first last : List ShardBook) : Type 0 where
   pub shard : ℕ
-  pub was : Book
-  pub is : Book
+  pub was : ShardBook
+  pub is : ShardBook
   pub was_is : slice_get first shard ≡ Some was
   pub is_is : slice_get last shard ≡ Some is
   pub rose : Rose was.faults is.faults
 
 -- what holds after a run on legal histories
-pub record IsOneHistory (issuer : Setup) (lines : List (List ℕ)) (answers : List Answer) (first last : List Book)
+pub record IsOneHistory (issuer : Setup) (lines : List (List ℕ)) (answers : List Answer) (first last : List ShardBook)
     : Type 0 where
   -- each history is extended by legal records, each new decision the table's
   pub goes_on : GoOnLegally issuer first last

@@ -1,5 +1,5 @@
--- The room of a host's stores, and how much of it a line uses.
-use Rattle.std.specs.Prelude.{◌≡◌, ℕ, ◌+◌, ◌==◌, if◌then◌else◌, false, List, Option, Some, Result, Ok, Err, slice_get}
+-- How much of the room of a host's stores a line uses.
+use Rattle.std.specs.Prelude.{◌≡◌, ℕ, ◌+◌, ◌==◌, if◌then◌else◌, false, List, Result, Ok, Err}
 use Rattle.issuer_base.specs.declared.answer.Answer.{Answer}
 use Rattle.issuer_base.specs.declared.answer.Refusal.{Refusal}
 use Rattle.issuer_base.specs.declared.outside.store.Store.{Ghosts}
@@ -9,8 +9,7 @@ use Rattle.issuer_setup.specs.IssuerSetup.{Setup, shard_of}
 use Rattle.journal_rec.specs.declared.limits.TheConstants.{MOST_QUEUED_BYTES, MOST_RECORD_BYTES}
 use Rattle.shard_book.specs.declared.shard.Shard.{Shard}
 use Rattle.shard_book.specs.Answering.{is_store_fault}
-use Rattle.shard_book.specs.Loads.{HaveRoom as LoadHasRoom}
-use Rattle.shard_book.specs.Room.{Spares}
+use Rattle.host_loading.specs.StoreRoom.{HaveRoom}
 use Rattle.one_caller.specs.Turns.{card_asked}
 
 -- how many bytes a record of the shard `home` adds to the shard with this number at most
@@ -27,18 +26,7 @@ abbrev pub added_by : Setup → Result Asked Refusal → ℕ → ℕ
 added_by issuer (Err refusal) number = 0
 added_by issuer (Ok asked) number = added_at (shard_of issuer (card_asked asked)) (most_asked asked) number
 
--- the room of each old store and of each store is known, and so many more bytes, by its index, than a load may need are
--- within the store's
-pub record StoresHaveRoom {S : Type 0} (size : S → ℕ) (room : S → Option ℕ) (spare : ℕ → ℕ) (olds stores : List S)
-    : Type 0 where
-  pub each : (number : ℕ) (old store : S) → slice_get olds number ≡ Some old → slice_get stores number ≡ Some store
-      → LoadHasRoom (spare number) (size old) (room old) (size store) (room store)
-
 module _ {S : Type 0} {G : Ghosts S} where
-  -- the room of each shard's store is known, and so many more bytes, by the shard's number, are within it
-  pub record HaveRoom (spare : ℕ → ℕ) (shards : List (Shard S G)) : Type 0 where
-    pub each : (number : ℕ) (shard : Shard S G) → slice_get shards number ≡ Some shard → Spares (spare number) shard
-
   -- with room for what a line adds and more no store fails, and the room for the more remains
   abbrev pub AnswersWithin : Setup → Result Asked Refusal → Answer → List (Shard S G) → List (Shard S G) → Type 0
   AnswersWithin issuer asked answer old new =

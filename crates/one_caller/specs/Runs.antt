@@ -5,48 +5,48 @@ use Rattle.issuer_base.specs.declared.outside.store.Store.{Ghosts}
 use Rattle.issuer_base.specs.declared.answer.Answer.{Answer}
 use Rattle.issuer_setup.specs.IssuerSetup.{Setup}
 use Rattle.journal_rec.specs.RecordText.{journal_text}
-use Rattle.record_store.specs.Images.{IsImage}
+use Rattle.journal_store.specs.Images.{IsImage}
 use Rattle.shard_book.specs.declared.shard.Shard.{Shard}
 use Rattle.shard_book.specs.Grounds.{grounds_now, IsTail}
 use Rattle.shard_book.specs.Shards.{disk_in}
 use Rattle.shard_book.specs.Histories.{IsImageBetween}
-use Rattle.one_caller.specs.Books.{Book}
-use Rattle.one_caller.specs.Hosts.{Stand}
+use Rattle.host_loading.specs.Books.{ShardBook}
+use Rattle.host_loading.specs.Hosts.{Stand}
 use Rattle.one_caller.specs.Turns.{Run}
 
 -- a store's observable contents are the journal of this book: its bytes are the text of the history and a prefix of the
 -- tail, which is the text of a valid successor, or nothing; nothing unless an answer reported that the store failed. A
 -- crash now leaves such bytes too
-pub record HoldsJournal (issuer : Setup) (shard : ℕ) (book : Book) (bytes : Option (List ℕ)) (disk : Option Disk)
+pub record HoldsJournal (issuer : Setup) (shard : ℕ) (book : ShardBook) (bytes : Option (List ℕ)) (disk : Option Disk)
     : Type 0 where
   pub tail : List ℕ
   pub tail_is : IsTail (grounds_now issuer) shard book.history tail
-  pub none : book.told ≡ 0 → tail ≡ []
+  pub none : book.reported ≡ 0 → tail ≡ []
   pub bytes_are : IfSome bytes (IsImage (journal_text book.history) tail)
   pub leaves :
       IfSome disk (λ disk. (image : List ℕ) → MayLeave disk.now image → IsImage (journal_text book.history) tail image)
 
 -- each store holds the journal of its shard's book
 pub record HoldJournals {S : Type 0} (bytes : S → Option (List ℕ)) (disk : S → Option Disk) (issuer : Setup)
-    (books : List Book) (stores : List S) : Type 0 where
+    (books : List ShardBook) (stores : List S) : Type 0 where
   pub count_is : length stores ≡ length books
-  pub each : (number : ℕ) (book : Book) (store : S)
+  pub each : (number : ℕ) (book : ShardBook) (store : S)
       → slice_get books number ≡ Some book → slice_get stores number ≡ Some store
       → HoldsJournal issuer number book (bytes store) (disk store)
 
 module _ {S : Type 0} {G : Ghosts S} where
   -- whatever a crash since these shards may leave of a store is an image of a history between its shard's first one and
   -- its last
-  abbrev pub LeaveBetween : Setup → List Book → List Book → List (Shard S G) → List (Shard S G) → Type 0
+  abbrev pub LeaveBetween : Setup → List ShardBook → List ShardBook → List (Shard S G) → List (Shard S G) → Type 0
   LeaveBetween issuer first last old new =
-      (number : ℕ) (before after : Shard S G) (was is : Book)
+      (number : ℕ) (before after : Shard S G) (was is : ShardBook)
       → slice_get old number ≡ Some before → slice_get new number ≡ Some after
       → slice_get first number ≡ Some was → slice_get last number ≡ Some is
       → BothTold (LeavesOnly (IsImageBetween issuer number was.history is.history)) (disk_in before) (disk_in after)
 
   -- these lines were answered, one after another, since the shards were loaded
-  pub record HasRun (issuer : Setup) (loaded : List (Shard S G)) (first : List Book) (lines : List (List ℕ))
-      (answers : List Answer) (now : List (Shard S G)) (books : List Book) : Type 0 where
+  pub record HasRun (issuer : Setup) (loaded : List (Shard S G)) (first : List ShardBook) (lines : List (List ℕ))
+      (answers : List Answer) (now : List (Shard S G)) (books : List ShardBook) : Type 0 where
     pub run : Run issuer first lines answers books
     pub stand : Stand issuer now books
     pub leave : LeaveBetween issuer first books loaded now

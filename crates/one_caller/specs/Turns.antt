@@ -7,27 +7,28 @@ use Rattle.issuer_base.specs.declared.answer.Answer.TheVariants.{Refused}
 use Rattle.issuer_base.specs.declared.answer.Refusal.{Refusal}
 use Rattle.card_history.specs.declared.decision.Asked.{Asked}
 use Rattle.card_history.specs.declared.decision.Asked.TheVariants.{Decide, Queue, Status}
-use Rattle.card_history.specs.Records.{CardName, named, card_of}
+use Rattle.issuer_base.specs.CardNames.{CardName, named}
+use Rattle.card_history.specs.Records.{card_of}
 use Rattle.issuer_setup.specs.IssuerSetup.{Setup, shard_of}
-use Rattle.row_core.specs.Replying.{reply_to}
+use Rattle.shard_book.specs.Replying.{reply_to}
 use Rattle.line_checks.specs.Reading.{reading}
-use Rattle.shard_book.specs.Answering.{is_store_fault, told_after, AnswersClaimed, AnswersOrder}
-use Rattle.one_caller.specs.Books.{Book}
+use Rattle.shard_book.specs.Answering.{is_store_fault, reported_after, AnswersClaimed, AnswersOrder}
+use Rattle.host_loading.specs.Books.{ShardBook}
 
 -- a line is answered in the shard of its card, on that shard's history; the store's fault count increases just where
 -- the answer reports that the store failed, and the books of the other shards are unchanged
-pub record AnswersIn (issuer : Setup) (before : List Book) (card : CardName) (answer : Answer)
-    (Changes : ℕ → List Entry → List Entry → Type 0) (after : List Book) : Type 0 where
-  pub old : Book
-  pub new : Book
+pub record AnswersIn (issuer : Setup) (before : List ShardBook) (card : CardName) (answer : Answer)
+    (Changes : ℕ → List Entry → List Entry → Type 0) (after : List ShardBook) : Type 0 where
+  pub old : ShardBook
+  pub new : ShardBook
   pub old_is : slice_get before (shard_of issuer card) ≡ Some old
   pub changes : Changes (shard_of issuer card) old.history new.history
   pub counts : CountsFaults old.faults new.faults (is_store_fault answer)
-  pub told_is : new.told ≡ told_after old.told (is_store_fault answer)
+  pub told_is : new.reported ≡ reported_after old.reported (is_store_fault answer)
   pub after_is : after ≡ slice_set before (shard_of issuer card) new
 
 -- a line is refused for this, and the books are unchanged
-abbrev pub IsRefused : List Book → Refusal → Answer → List Book → Type 0
+abbrev pub IsRefused : List ShardBook → Refusal → Answer → List ShardBook → Type 0
 IsRefused before refusal answer after = (answer ≡ Refused refusal) × (after ≡ before)
 
 -- the card that a line asks of
@@ -44,16 +45,16 @@ AnswersAsked issuer order answer shard old new = AnswersOrder shard old order an
 
 -- one turn: a line that is refused before it calls a shard leaves all books; any other is answered in the shard of its
 -- card, and in place of an answer that adds a record the answer may be that the store failed
-abbrev pub Turn : Setup → List Book → Result Asked Refusal → Answer → List Book → Type 0
+abbrev pub Turn : Setup → List ShardBook → Result Asked Refusal → Answer → List ShardBook → Type 0
 Turn issuer before (Err refusal) answer after = IsRefused before refusal answer after
 Turn issuer before (Ok asked) answer after =
     AnswersIn issuer before (card_asked asked) answer (AnswersAsked issuer asked answer) after
 
 -- a run of turns: these answers to these lines, one after another
-abbrev pub Run : Setup → List Book → List (List ℕ) → List Answer → List Book → Type 0
+abbrev pub Run : Setup → List ShardBook → List (List ℕ) → List Answer → List ShardBook → Type 0
 Run issuer before [] [] after = after ≡ before
 Run issuer before (line ∷ lines) (answer ∷ answers) after =
-    (between : List Book) × Turn issuer before (reading issuer line) answer between
+    (between : List ShardBook) × Turn issuer before (reading issuer line) answer between
     × Run issuer between lines answers after
 Run issuer before [] (answer ∷ answers) after = ⊥
 Run issuer before (line ∷ lines) [] after = ⊥

@@ -2,7 +2,7 @@
 ghost use Rattle.std.specs.Prelude.{ℕ, List};
 ghost use Rattle.issuer_base.specs.declared.answer.Answer.{Answer};
 ghost use Rattle.issuer_setup.specs.IssuerSetup.{Setup};
-ghost use Rattle.one_caller.specs.Books.{Book};
+ghost use Rattle.host_loading.specs.Books.{ShardBook};
 ghost use Rattle.one_caller.specs.OneHistory.{AreLegalBooks, AreRecorded, IsOneHistory, LoadsAgain};
 ghost use Rattle.one_caller.specs.Turns.{Run};
 
@@ -12,7 +12,7 @@ ghost use Rattle.one_caller.specs.Turns.{Run};
 ///
 /// The contract is a theorem on every run; the function does nothing.
 pub fn every_run_is_one_history()
-    ensures { (issuer : Setup) (first last : List Book) (lines : List (List ℕ)) (answers : List Answer)
+    ensures { (issuer : Setup) (first last : List ShardBook) (lines : List (List ℕ)) (answers : List Answer)
         → LoadsAgain issuer → AreLegalBooks issuer first → AreRecorded last → Run issuer first lines answers last
         → IsOneHistory issuer lines answers first last }
 {}

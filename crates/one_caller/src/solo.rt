@@ -1,6 +1,6 @@
 //! The host of one caller.
 ghost use Rattle.std.specs.Prelude.{◌≡◌, ◌<◌, ◌≤◌, ◌%◌, ℕ, List, [], ◌∷◌, ◌++◌, length, map, reverse, vec_capacity, slice_get, Some, Ok, IfOk, IfErr, MatchResult, false};
-ghost use Rattle.card_history.specs.Records.{CardName};
+ghost use Rattle.issuer_base.specs.CardNames.{CardName};
 ghost use Rattle.issuer_setup.specs.CardList.{name_of, number_of};
 ghost use Rattle.issuer_setup.specs.IssuerSetup.{shard_of};
 ghost use Rattle.issuer_setup.specs.declared.card.CardInfo.{CardInfo};
@@ -10,20 +10,21 @@ ghost use Rattle.line_checks.specs.Reading.{reading};
 ghost use Rattle.shard_book.specs.Answering.{tells_change};
 ghost use Rattle.shard_book.specs.Loading.{is_store_failure};
 ghost use Rattle.shard_book.specs.Shards.{store_in};
-ghost use Rattle.one_caller.specs.Books.{Book};
-ghost use Rattle.one_caller.specs.Hosts.{AreShards, Stand};
-ghost use Rattle.one_caller.specs.Loading.{AreLoaded, AreOnlyRead, ComeBack};
-ghost use Rattle.one_caller.specs.Room.{AnswersWithin, HaveRoom, StoresHaveRoom};
+ghost use Rattle.host_loading.specs.Books.{ShardBook};
+ghost use Rattle.host_loading.specs.Hosts.{AreShards, Stand};
+ghost use Rattle.host_loading.specs.Loading.{AreLoaded, AreOnlyRead, ComeBack};
+ghost use Rattle.host_loading.specs.StoreRoom.{HaveRoom, StoresHaveRoom};
+ghost use Rattle.one_caller.specs.Room.{AnswersWithin};
 ghost use Rattle.one_caller.specs.Runs.{HoldJournals, LeaveBetween};
 ghost use Rattle.one_caller.specs.Turns.{Turn};
 ghost use Rattle.card_history.specs.CardViews.{card_shown};
 
-use crate::loading::{HostBack, Lists, load_all, take_lists, take_stores};
 use card_history::CardView;
+use host_loading::{HostBack, Lists, load_all, take_lists, take_stores};
 use issuer_base::{Answer, MAX_CHIP_BYTES, Refusal, Store};
 use issuer_setup::Issuer;
 use journal_rec::VERSION_LINE;
-use line_checks::{CheckedOrder, Sought, look_up};
+use line_checks::{CheckedOrder, LookedUp, look_up};
 use shard_book::{LoadFault, Shard};
 use std::alloc::Global;
 
@@ -95,8 +96,8 @@ impl<S: Store> Solo<S> {
     /// The answer to a line without its newline. A new record is durable before it is answered. A card's key for
     /// cryptograms is derived at the card's first request, and its key schedule is cached.
     pub fn authorise(&mut self, line: &[u8]) -> Answer
-        ensures turn { (books : List Book) → Stand self.old.issuer self.old.shards.items books
-            → (after : List Book) × Stand self.new.issuer self.new.shards.items after
+        ensures turn { (books : List ShardBook) → Stand self.old.issuer self.old.shards.items books
+            → (after : List ShardBook) × Stand self.new.issuer self.new.shards.items after
             × Turn self.old.issuer books (reading self.old.issuer line.now) result after }
 
         // An answer that reports neither a new record nor that a store failed leaves all shards unchanged.
@@ -108,7 +109,7 @@ impl<S: Store> Solo<S> {
 
         // Whatever a crash since the start of the call may leave of a store is the text of its shard's history before
         // the call, possibly with a torn record after it.
-        ensures crash { (books : List Book) → Stand self.old.issuer self.old.shards.items books
+        ensures crash { (books : List ShardBook) → Stand self.old.issuer self.old.shards.items books
             → LeaveBetween self.old.issuer books books self.old.shards.items self.new.shards.items }
         ensures issuer { self.new.issuer ≡ self.old.issuer }
     {
@@ -118,37 +119,37 @@ impl<S: Store> Solo<S> {
 
     /// What the look-up of a line without its newline gives, ahead of the line's turn. It reads no shard. As in
     /// [`Solo::authorise`], a card's key for cryptograms is derived at the card's first request, and cached.
-    pub fn look_ahead(&mut self, line: &[u8]) -> Result<Sought, Refusal>
+    pub fn look_ahead(&mut self, line: &[u8]) -> Result<LookedUp, Refusal>
         ensures found { IsLookUp self.old.issuer line.now result }
         ensures same { (self.new.issuer ≡ self.old.issuer) × (self.new.shards.items ≡ self.old.shards.items) }
     {
         let found = look_up(&self.issuer, line, &mut self.data);
-        if let Ok(Sought::Request(sought)) = &found {
+        if let Ok(LookedUp::Request(sought)) = &found {
             self.issuer.keep(sought.slot);
         }
         found
     }
 
     /// The answer to a line that was looked up, as [`Solo::authorise`] gives it in the line's turn.
-    pub fn answer(&mut self, found: &Result<Sought, Refusal>) -> Answer
+    pub fn answer(&mut self, found: &Result<LookedUp, Refusal>) -> Answer
         requires { (line : List ℕ) × IsLookUp self.old.issuer line found.now }
 
         // The clauses of `authorise`, for each line of which this is the look-up.
         ensures turn { (line : List ℕ) → IsLookUp self.old.issuer line found.now
-            → (books : List Book) → Stand self.old.issuer self.old.shards.items books
-            → (after : List Book) × Stand self.new.issuer self.new.shards.items after
+            → (books : List ShardBook) → Stand self.old.issuer self.old.shards.items books
+            → (after : List ShardBook) × Stand self.new.issuer self.new.shards.items after
             × Turn self.old.issuer books (reading self.old.issuer line) result after }
         ensures unchanged { tells_change result ≡ false → self.new.shards.items ≡ self.old.shards.items }
         ensures room { (line : List ℕ) → IsLookUp self.old.issuer line found.now
             → AnswersWithin self.old.issuer (reading self.old.issuer line) result
             self.old.shards.items self.new.shards.items }
-        ensures crash { (books : List Book) → Stand self.old.issuer self.old.shards.items books
+        ensures crash { (books : List ShardBook) → Stand self.old.issuer self.old.shards.items books
             → LeaveBetween self.old.issuer books books self.old.shards.items self.new.shards.items }
         ensures issuer { self.new.issuer ≡ self.old.issuer }
     {
         let sought = match found {
-            Ok(Sought::Request(sought)) => sought,
-            Ok(Sought::Order(found)) => return self.order(found),
+            Ok(LookedUp::Request(sought)) => sought,
+            Ok(LookedUp::Order(found)) => return self.order(found),
             Err(refusal) => return Answer::Refused(*refusal),
         };
 
@@ -173,7 +174,7 @@ impl<S: Store> Solo<S> {
     /// What the host shows of the card with this number.
     pub fn show(&self, card: u32) -> CardView
         requires { card < length self.now.issuer.cards }
-        ensures { (books : List Book) (info : CardInfo) (book : Book)
+        ensures { (books : List ShardBook) (info : CardInfo) (book : ShardBook)
             → Stand self.now.issuer self.now.shards.items books
             → slice_get self.now.issuer.cards card ≡ Some info
             → slice_get books (shard_of self.now.issuer (name_of info)) ≡ Some book
@@ -187,7 +188,7 @@ impl<S: Store> Solo<S> {
     /// The stores, in the order of their shards' numbers. Each has the journal of its shard's book, also after a crash.
     pub fn close(self) -> Vec<S>
         ensures stores { result.items ≡ map store_in self.shards.items }
-        ensures journals { (books : List Book) → Stand self.issuer self.shards.items books
+        ensures journals { (books : List ShardBook) → Stand self.issuer self.shards.items books
             → HoldJournals S.bytes S.disk self.issuer books result.items }
     {
         let Solo {
@@ -212,12 +213,12 @@ impl<S: Store> Solo<S> {
     /// The answer to a checked order, in the shard of its card.
     fn order(&mut self, found: &CheckedOrder) -> Answer
         requires { IsOrderAtHand self.old.issuer found.now }
-        ensures turn { (books : List Book) → Stand self.old.issuer self.old.shards.items books
-            → (after : List Book) × Stand self.new.issuer self.new.shards.items after
+        ensures turn { (books : List ShardBook) → Stand self.old.issuer self.old.shards.items books
+            → (after : List ShardBook) × Stand self.new.issuer self.new.shards.items after
             × Turn self.old.issuer books (Ok (order_asked found.now)) result after }
         ensures room { AnswersWithin self.old.issuer (Ok (order_asked found.now)) result
             self.old.shards.items self.new.shards.items }
-        ensures crash { (books : List Book) → Stand self.old.issuer self.old.shards.items books
+        ensures crash { (books : List ShardBook) → Stand self.old.issuer self.old.shards.items books
             → LeaveBetween self.old.issuer books books self.old.shards.items self.new.shards.items }
         ensures unchanged { tells_change result ≡ false → self.new.shards.items ≡ self.old.shards.items }
         ensures issuer { self.new.issuer ≡ self.old.issuer }

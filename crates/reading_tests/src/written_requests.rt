@@ -1,8 +1,8 @@
 //! The lines of two requests, encoded by hand, that are parsed and written again.
 
 use chip_request::{LineKind, read_line, read_request};
-use request_text::request_line;
 use std::test::Fail;
+use terminal_kernel::request_line;
 
 /// A purchase over 123.45 in transaction 263, by a card with an even number of digits and by one with an odd number.
 const LINES: [&[u8]; 2] = [

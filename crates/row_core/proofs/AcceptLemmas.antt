@@ -6,7 +6,8 @@ use Rattle.issuer_base.specs.declared.entry.Entry.{Entry}
 use Rattle.issuer_base.specs.declared.limits.TheConstants.{WINDOW}
 use Rattle.issuer_base.specs.declared.request.Request.{Request}
 use Rattle.key_derive.specs.declared.card.CardKeys.{CardKeys}
-use Rattle.card_history.specs.Records.{CardName, card_of, decided, greatest, IsBelow, IsBelowBy}
+use Rattle.issuer_base.specs.CardNames.{CardName}
+use Rattle.card_history.specs.Records.{card_of, decided, greatest_atc, IsBelow, IsBelowBy}
 use Rattle.card_history.specs.Scripts.{Scripts, scripts_of}
 use Rattle.card_history.specs.Turns.{IsUnused}
 use Rattle.issuer_setup.specs.declared.card.CardInfo.{CardInfo}
@@ -16,7 +17,7 @@ use Rattle.row_core.specs.Accepting.{IsMade, IsValidSuccessor}
 use Rattle.row_core.proofs.RowLemmas.{keeps-scripts}
 
 -- what is below a window is below a narrower one
-pub below-narrower : (window : ℕ) (greatest : Option ℕ) (counter : ℕ) → window ≤ WINDOW → IsBelow greatest counter → IsBelowBy window greatest counter
+pub below-narrower : (window : ℕ) (greatest_atc : Option ℕ) (counter : ℕ) → window ≤ WINDOW → IsBelow greatest_atc counter → IsBelowBy window greatest_atc counter
 below-narrower window None counter narrower below = below
 below-narrower window (Some top) counter narrower below = omega (arith, narrower, below)
 
@@ -44,7 +45,7 @@ pub below-apart : (window : ℕ) (card : CardInfo) (row : CardRow) (keys : CardK
     → IsBelowBy window row.hi request.atc → StandsFor card row history → card_of request ≡ name_of card
     → IsValidSuccessor window card.method keys history request reply → ⊥
 below-apart window card row keys history request reply below stands named follows =
-    follows.in_window (subst (λ (name : CardName). IsBelowBy window (greatest (decided name history)) request.atc) (sym named)
+    follows.in_window (subst (λ (name : CardName). IsBelowBy window (greatest_atc (decided name history)) request.atc) (sym named)
     (subst (λ (hi : Option ℕ). IsBelowBy window hi request.atc) stands.hi_is below))
 
 -- and one that isn't below it is a valid successor by either window, or by none
@@ -54,12 +55,12 @@ pub narrower-follows : (window : ℕ) (card : CardInfo) (row : CardRow) (keys : 
     → (IsTrue accepted ↔ IsValidSuccessor WINDOW card.method keys history request reply)
     → (IsTrue accepted ↔ IsValidSuccessor window card.method keys history request reply)
 narrower-follows window card row keys history request reply accepted narrower inside stands named accepts =
-    let within : IsBelowBy window (greatest (decided (card_of request) history)) request.atc → ⊥ =
-    subst (λ (name : CardName). IsBelowBy window (greatest (decided name history)) request.atc → ⊥) (sym named)
+    let within : IsBelowBy window (greatest_atc (decided (card_of request) history)) request.atc → ⊥ =
+    subst (λ (name : CardName). IsBelowBy window (greatest_atc (decided name history)) request.atc → ⊥) (sym named)
     (subst (λ (hi : Option ℕ). IsBelowBy window hi request.atc → ⊥) stands.hi_is inside) in (
       λ yes. let follows = accepts.0 yes in record { in_window = within; unrecorded = follows.unrecorded; made = follows.made },
       λ follows. accepts.1 (record {
-        in_window = λ below. within (below-narrower window (greatest (decided (card_of request) history)) request.atc narrower below);
+        in_window = λ below. within (below-narrower window (greatest_atc (decided (card_of request) history)) request.atc narrower below);
         unrecorded = follows.unrecorded;
         made = follows.made;
       }),

@@ -6,3 +6,4 @@ pub mod Shown
 pub mod OtherCards
 pub mod PlanLemmas
 pub mod AcceptLemmas
+pub use Rattle.arpc_methods.proofs.Lengths

@@ -3,7 +3,8 @@ use Rattle.std.proofs.Common.{◌≡◌, ◌≢◌, List, [], ◌∷◌, ◌++�
 use Rattle.issuer_base.specs.declared.entry.Entry.{Entry}
 use Rattle.issuer_base.specs.declared.entry.Entry.TheVariants.{Decided, Queued, Status}
 use Rattle.card_history.specs.declared.decision.Decision.{Decision}
-use Rattle.card_history.specs.Records.{CardName, card_in, decided, greatest, status_of}
+use Rattle.issuer_base.specs.CardNames.{CardName}
+use Rattle.card_history.specs.Records.{card_in, decided, greatest_atc, status_of}
 use Rattle.card_history.specs.Scripts.{scripts_of}
 use Rattle.card_history.proofs.CardNames.{is_of-other, has_numbers-other}
 use Rattle.card_history.proofs.OneMoreRecord.{decided-other}
@@ -47,7 +48,7 @@ stands-other card row history entry other stands =
     let same = other-says_the_same (name_of card) history entry other in
     record {
       method_is = stands.method_is;
-      hi_is = stands.hi_is ∙ ap greatest (sym same.decisions);
+      hi_is = stands.hi_is ∙ ap greatest_atc (sym same.decisions);
       status_is = stands.status_is ∙ sym same.status;
       window_is = subst (λ (decisions : List Decision). KeepsWindow row.slots decisions) (sym same.decisions) stands.window_is;
       scripts_are = stands.scripts_are ∙ ap kept_of (sym same.scripts);

@@ -3,7 +3,8 @@ use Rattle.std.proofs.Common.{◌≡◌, List, length, Option, refl, ap, sym, �
 use Rattle.issuer_base.specs.declared.answer.Reply.{Reply}
 use Rattle.issuer_base.specs.declared.entry.Entry.{Entry}
 use Rattle.issuer_base.specs.declared.request.Request.{Request}
-use Rattle.card_history.specs.Records.{CardName, card_of, decided, status_of}
+use Rattle.issuer_base.specs.CardNames.{CardName}
+use Rattle.card_history.specs.Records.{card_of, decided, status_of}
 use Rattle.card_history.specs.Scripts.{Scripts, scripts_of}
 use Rattle.card_history.specs.Turns.{IsUnused}
 use Rattle.key_derive.specs.declared.card.CardKeys.{CardKeys}

@@ -4,7 +4,8 @@ use Rattle.std.proofs.Common.{◌≡◌, ◌≤◌, ℕ, List, [], ◌∷◌, �
 use Rattle.issuer_base.specs.declared.command.Command.{Command}
 use Rattle.issuer_base.specs.declared.entry.Entry.{Entry}
 use Rattle.card_history.specs.declared.decision.Decision.{Decision}
-use Rattle.card_history.specs.Records.{CardName, is_of, decided, greatest, status_of}
+use Rattle.issuer_base.specs.CardNames.{CardName}
+use Rattle.card_history.specs.Records.{is_of, decided, greatest_atc, status_of}
 use Rattle.card_history.specs.Scripts.{Scripts, no_scripts, with_command, with_decision, scripts_of}
 use Rattle.card_history.proofs.CardNames.{is_of-card_of, has_numbers-named}
 use Rattle.card_history.proofs.OneMoreRecord.{decided-more}
@@ -87,7 +88,7 @@ stands-again : (card : CardInfo) (before after : CardRow) (history longer : List
     → StandsFor card after longer
 stands-again card before after history longer method hi slots same status scripts stands = record {
   method_is = method ∙ stands.method_is;
-  hi_is = hi ∙ stands.hi_is ∙ ap greatest (sym same);
+  hi_is = hi ∙ stands.hi_is ∙ ap greatest_atc (sym same);
   status_is = status;
   window_is = subst (λ (slots : List (Option Decision)). KeepsWindow slots (decided (name_of card) longer)) (sym slots)
       (subst (λ (decisions : List Decision). KeepsWindow before.slots decisions) (sym same) stands.window_is);

@@ -8,7 +8,7 @@ use Rattle.std.proofs.lemmas.List.Elements.{All-contains}
 use Rattle.std.proofs.lemmas.List.Elements.{Contains-append_left, Contains-push, Contains-push_cases}
 use Rattle.issuer_base.specs.declared.limits.TheConstants.{WINDOW}
 use Rattle.card_history.specs.declared.decision.Decision.{Decision}
-use Rattle.card_history.specs.Records.{greatest, IsBelow}
+use Rattle.card_history.specs.Records.{greatest_atc, IsBelow}
 use Rattle.card_history.specs.Turns.{IsUnused}
 use Rattle.card_history.proofs.OneMoreRecord.{greatest-none, greatest-above, greatest-more}
 use Rattle.reply_keep.specs.ReplySlots.{slot_of, none_kept, in_slot, with_kept}
@@ -24,49 +24,49 @@ window-empty = record {
 }
 
 -- two ATCs of one window have slots of their own
-slots_apart : (greatest_atc counter other : ℕ)
-    → counter ≤ greatest_atc → other ≤ greatest_atc
-    → (counter + WINDOW ≤ greatest_atc → ⊥) → (other + WINDOW ≤ greatest_atc → ⊥)
+slots_apart : (top_atc counter other : ℕ)
+    → counter ≤ top_atc → other ≤ top_atc
+    → (counter + WINDOW ≤ top_atc → ⊥) → (other + WINDOW ≤ top_atc → ⊥)
     → counter ≢ other → slot_of counter ≢ slot_of other
-slots_apart greatest_atc counter other under other_under in_window other_in_window apart same = apart (omega arith)
+slots_apart top_atc counter other under other_under in_window other_in_window apart same = apart (omega arith)
 
-cases_greatest : (so_far : Option ℕ) → (so_far ≡ None) ⊎ ((greatest_atc : ℕ) × (so_far ≡ Some greatest_atc))
+cases_greatest : (so_far : Option ℕ) → (so_far ≡ None) ⊎ ((top_atc : ℕ) × (so_far ≡ Some top_atc))
 cases_greatest None = inl refl
-cases_greatest (Some greatest_atc) = inr (greatest_atc, refl)
+cases_greatest (Some top_atc) = inr (top_atc, refl)
 
 -- a decision that is still in the window after one on an unused ATC was in it before, and has another slot
 record StaysInWindow (decisions : List Decision) (decision other : Decision) : Type 0 where
-  in_window : IsBelow (greatest decisions) other.request.atc → ⊥
+  in_window : IsBelow (greatest_atc decisions) other.request.atc → ⊥
   apart : slot_of other.request.atc ≢ slot_of decision.request.atc
 
 stays : (decisions : List Decision) (decision other : Decision)
     → IsUnused decisions decision.request
     → Contains decisions other
-    → (IsBelow (greatest (decisions ++ decision ∷ [])) other.request.atc → ⊥)
+    → (IsBelow (greatest_atc (decisions ++ decision ∷ [])) other.request.atc → ⊥)
     → StaysInWindow decisions decision other
 stays decisions decision other unused within late =
-    elim (cases_greatest (greatest decisions)) [
+    elim (cases_greatest (greatest_atc decisions)) [
       | inl none ↦
           let nowhere : Contains [] other = subst (λ (decisions : List Decision). Contains decisions other) (greatest-none decisions none) within in
           let below : nowhere.0 < 0 = nowhere.1 in
           absurd (omega arith)
-      | inr (greatest_atc, is) ↦
+      | inr (top_atc, is) ↦
           let counter = decision.request.atc in
-          let raised : greatest (decisions ++ decision ∷ []) ≡ Some (max greatest_atc counter) =
-          greatest-more decisions decision ∙ ap (λ so_far. Some (option_map_or (λ greatest_atc. max greatest_atc counter) so_far counter)) is in
-          let in_new : other.request.atc + WINDOW ≤ max greatest_atc counter → ⊥ =
+          let raised : greatest_atc (decisions ++ decision ∷ []) ≡ Some (max top_atc counter) =
+          greatest-more decisions decision ∙ ap (λ so_far. Some (option_map_or (λ top_atc. max top_atc counter) so_far counter)) is in
+          let in_new : other.request.atc + WINDOW ≤ max top_atc counter → ⊥ =
           λ below. late (subst (λ (so_far : Option ℕ). IsBelow so_far other.request.atc) (sym raised) below) in
-          let in_old : counter + WINDOW ≤ greatest_atc → ⊥ =
+          let in_old : counter + WINDOW ≤ top_atc → ⊥ =
           λ below. unused.in_window (subst (λ (so_far : Option ℕ). IsBelow so_far counter) (sym is) below) in
-          let under : other.request.atc ≤ greatest_atc =
-          All-contains (λ decision. decision.request.atc ≤ greatest_atc) decisions other (greatest-above decisions greatest_atc is) within in
+          let under : other.request.atc ≤ top_atc =
+          All-contains (λ decision. decision.request.atc ≤ top_atc) decisions other (greatest-above decisions top_atc is) within in
           let differ : other.request.atc ≢ counter =
           All-contains (λ decision. decision.request.atc ≢ counter) decisions other unused.unrecorded within in
           record {
             in_window = λ below.
-                let far : other.request.atc + WINDOW ≤ greatest_atc = subst (λ (so_far : Option ℕ). IsBelow so_far other.request.atc) is below in
+                let far : other.request.atc + WINDOW ≤ top_atc = subst (λ (so_far : Option ℕ). IsBelow so_far other.request.atc) is below in
                 in_new (omega arith);
-            apart = slots_apart (max greatest_atc counter) other.request.atc counter (omega arith) (omega arith) in_new (λ below. in_old (omega arith)) differ;
+            apart = slots_apart (max top_atc counter) other.request.atc counter (omega arith) (omega arith) in_new (λ below. in_old (omega arith)) differ;
           }
     ]
 

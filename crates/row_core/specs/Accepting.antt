@@ -6,7 +6,7 @@ use Rattle.issuer_base.specs.declared.answer.Reply.{Reply}
 use Rattle.issuer_base.specs.declared.entry.Entry.{Entry}
 use Rattle.issuer_base.specs.declared.request.Request.{Request}
 use Rattle.key_derive.specs.declared.card.CardKeys.{CardKeys}
-use Rattle.card_history.specs.Records.{card_of, greatest, IsBelowBy}
+use Rattle.card_history.specs.Records.{card_of, greatest_atc, IsBelowBy}
 use Rattle.card_history.specs.Scripts.{Scripts, scripts_of}
 use Rattle.card_history.specs.Turns.{decided_for}
 use Rattle.row_core.specs.Replying.{reply_bytes}
@@ -31,6 +31,6 @@ pub record IsMade (method : Method) (keys : CardKeys) (scripts : Scripts) (reque
 -- makes the reply, by some row of a decision table
 pub record IsValidSuccessor (window : ℕ) (method : Method) (keys : CardKeys) (history : List Entry) (request : Request)
     (reply : Reply) : Type 0 where
-  pub in_window : IsBelowBy window (greatest (decided_for request history)) request.atc → ⊥
+  pub in_window : IsBelowBy window (greatest_atc (decided_for request history)) request.atc → ⊥
   pub unrecorded : All (λ decision. decision.request.atc ≢ request.atc) (decided_for request history)
   pub made : IsMade method keys (scripts_of (card_of request) history) request reply

@@ -4,7 +4,7 @@ use Rattle.issuer_base.specs.declared.answer.Method.{Method}
 use Rattle.issuer_base.specs.declared.entry.Entry.{Entry}
 use Rattle.issuer_base.specs.declared.limits.TheConstants.{WINDOW}
 use Rattle.card_history.specs.declared.decision.Decision.{Decision}
-use Rattle.card_history.specs.Records.{decided, greatest, IsBelow, status_of}
+use Rattle.card_history.specs.Records.{decided, greatest_atc, IsBelow, status_of}
 use Rattle.card_history.specs.Scripts.{Scripts, waiting, scripts_of}
 use Rattle.cvr_settle.specs.declared.settlement.Flight.{Flight}
 use Rattle.reply_keep.specs.ReplySlots.{slot_of, in_slot}
@@ -45,7 +45,7 @@ pub record KeepsScripts (row : CardRow) (scripts : Scripts) : Type 0 where
 pub record KeepsWindow (slots : List (Option Decision)) (decisions : List Decision) : Type 0 where
   pub one_each : length slots ≡ WINDOW
   pub kept : (decision : Decision) → Contains decisions decision
-      → (IsBelow (greatest decisions) decision.request.atc → ⊥)
+      → (IsBelow (greatest_atc decisions) decision.request.atc → ⊥)
       → in_slot (slot_of decision.request.atc) slots ≡ Some decision
   pub decided : (slot : ℕ) (decision : Decision) → in_slot slot slots ≡ Some decision
       → Contains decisions decision × (slot_of decision.request.atc ≡ slot)
@@ -53,7 +53,7 @@ pub record KeepsWindow (slots : List (Option Decision)) (decisions : List Decisi
 -- a row stands for a shard's history if each of its parts is the card's in that history
 pub record StandsFor (card : CardInfo) (row : CardRow) (history : List Entry) : Type 0 where
   pub method_is : row.method ≡ card.method
-  pub hi_is : row.hi ≡ greatest (decided (name_of card) history)
+  pub hi_is : row.hi ≡ greatest_atc (decided (name_of card) history)
   pub status_is : row.status ≡ status_of (name_of card) history
   pub window_is : KeepsWindow row.slots (decided (name_of card) history)
   pub scripts_are : row.scripts ≡ kept_of (scripts_of (name_of card) history)

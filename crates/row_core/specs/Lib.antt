@@ -9,3 +9,4 @@ pub mod Known
 pub mod Replying
 pub mod Plan
 pub mod Accepting
+pub use Rattle.arpc_methods.specs.Arpc

@@ -14,7 +14,7 @@ use Rattle.std.proofs.lemmas.Slice.Eq.{bytes_eq-Decides}
 use Rattle.std.proofs.lemmas.Option.{cond_some}
 use Rattle.std.proofs.lemmas.List.{take_at}
 use Rattle.issuer_base.specs.ScriptCommand.{command_bytes}
-use Rattle.suite_mac.proofs.Lengths.{length-mac_of}
+use Rattle.key_derive.proofs.MacLengths.{length-mac_of}
 
 -- bytes that are no command open to nothing
 pub opened_command-no_command : (suite : Suite) (key chain bytes : List ℕ) → command_of (unsealed_bytes bytes) ≡ None

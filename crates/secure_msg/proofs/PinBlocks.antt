@@ -6,9 +6,9 @@ use Rattle.std.proofs.lemmas.Bool.{and_parts, cond-true, leb-true, cases_lt}
 use Rattle.std.proofs.lemmas.Option.{cond_some}
 use Rattle.std.proofs.lemmas.List.{ext_get_or, get_or_append_left, get_or_past, length-replicate, drop-replicate}
 use Rattle.issuer_base.proofs.Decimal.{list_all-at}
-use Rattle.master_keys.specs.Digits.{packed}
-use Rattle.master_keys.proofs.Nibbles.{AreNibbles, AreNibbles-append}
-use Rattle.master_keys.proofs.Packing.{length-packed, get_or-packed}
+use Rattle.key_derive.specs.Digits.{packed}
+use Rattle.key_derive.proofs.Nibbles.{AreNibbles, AreNibbles-append}
+use Rattle.key_derive.proofs.Packing.{length-packed, get_or-packed}
 use Rattle.retail_mac.specs.Opening.{AreBytes}
 use Rattle.secure_msg.specs.Pins.{is_pin, pin_from, pin_nibbles, pin_block, nibble_at}
 

@@ -6,7 +6,7 @@ use Rattle.issuer_base.specs.declared.command.Command.{Command}
 use Rattle.issuer_base.specs.declared.request.Suite.{Suite}
 use Rattle.issuer_base.specs.declared.limits.TheConstants.{MAX_BODY_BYTES}
 use Rattle.issuer_base.specs.ScriptCommand.{is_command}
-use Rattle.suite_mac.specs.SuiteMac.{mac_of}
+use Rattle.key_derive.specs.SuiteMac.{mac_of}
 use Rattle.script_commands.specs.Commands.{command_of}
 
 -- a command as it is sent, up to its MAC: class, instruction, two parameters, Lc, which counts the data and the MAC,

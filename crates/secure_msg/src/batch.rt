@@ -3,7 +3,7 @@
 ghost use Rattle.std.specs.Prelude.{◌≡◌, ℕ, ◌+◌, ◌≤◌, ◌↔◌, List, [], ◌++◌, length, fold, sum_by, IsTrue};
 ghost use Rattle.std.specs.List.{flat_map};
 ghost use Rattle.issuer_base.specs.declared.request.Suite.{Suite};
-ghost use Rattle.suite_mac.specs.SuiteRun.{IsRun};
+ghost use Rattle.key_derive.specs.SuiteRun.{IsRun};
 ghost use Rattle.tlv_objects.specs.Writing.{is_tag_number, object_text};
 ghost use Rattle.issuer_base.specs.ScriptTemplate.{sealed_size};
 ghost use Rattle.secure_msg.specs.Sealing.{command_mac};
@@ -13,7 +13,7 @@ use crate::sealing::seal_in;
 use arrayvec::ArrayVec;
 use des_block::Key16;
 use issuer_base::{BARE_COMMAND_BYTES, BARE_TEMPLATE_BYTES, Command, MAX_TEMPLATE_BYTES, Suite};
-use suite_mac::SuiteRun;
+use key_derive::SuiteRun;
 use tlv_objects::{ROOM, put};
 
 /// The tag of an issuer script template whose commands a card runs after its final cryptogram.

@@ -5,7 +5,7 @@ ghost use Rattle.std.specs.List.{list_all};
 ghost use Rattle.secure_msg.specs.Pins.{is_pin, pin_from, pin_nibbles, pin_block};
 
 use arrayvec::ArrayVec;
-use master_keys::packed;
+use key_derive::packed;
 use std::marker::Model;
 
 /// How many digits a PIN has at least.

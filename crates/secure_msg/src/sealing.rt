@@ -4,15 +4,15 @@ ghost use Rattle.std.specs.Prelude.{◌≡◌, ℕ, ◌+◌, ◌≤◌, List, []
 ghost use Rattle.issuer_base.specs.declared.command.Command.{Command};
 ghost use Rattle.issuer_base.specs.declared.request.Suite.{Suite};
 ghost use Rattle.issuer_base.specs.ScriptCommand.{is_command};
-ghost use Rattle.suite_mac.specs.SuiteRun.{IsRun};
+ghost use Rattle.key_derive.specs.SuiteRun.{IsRun};
 ghost use Rattle.script_commands.specs.Commands.{command_of};
 ghost use Rattle.secure_msg.specs.Sealing.{sent_bytes, command_mac, sealed_command, unsealed_bytes, opened_command, AreSealed};
 
 use arrayvec::ArrayVec;
 use des_block::Key16;
 use issuer_base::{Command, MAX_BODY_BYTES, Suite};
+use key_derive::SuiteRun;
 use script_commands::command_of_parts;
-use suite_mac::SuiteRun;
 
 /// How many bytes precede the data of a command that is sent: class, instruction, two parameters and Lc.
 const HEADER_BYTES: usize = 5;

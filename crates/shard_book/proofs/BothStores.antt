@@ -2,9 +2,9 @@
 use Rattle.std.proofs.Common.{◌≡◌, ◌≤◌, ◌+◌, ℕ, Bool, true, false, ◌||◌, refl, sym, subst, ◌∙◌, List, Option}
 use Rattle.issuer_base.specs.OutsideFaults.{CountsFaults}
 use Rattle.issuer_base.specs.Stores.{BothTold, Disk, HasRoom}
-use Rattle.record_store.specs.Images.{OnlyReads}
+use Rattle.journal_store.specs.Images.{OnlyReads}
 use Rattle.issuer_base.proofs.ManyCalls.{CountsFaults-no_call, CountsFaults-then}
-use Rattle.record_store.proofs.ReadSoFar.{reads-none, reads-then}
+use Rattle.journal_store.proofs.ReadSoFar.{reads-none, reads-then}
 use Rattle.shard_book.specs.Loads.{CountsBoth, IsOnlyRead}
 
 -- ---- fault counts

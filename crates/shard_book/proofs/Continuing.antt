@@ -11,7 +11,7 @@ use Rattle.journal_rec.specs.Record.{IsRecord}
 use Rattle.shard_book.specs.Grounds.{grounds_old}
 use Rattle.issuer_setup.specs.IssuerSetup.{Setup}
 use Rattle.journal_rec.specs.RecordText.{newline, texts_of, journal_text, version_line}
-use Rattle.record_store.specs.Images.{OnlyReads}
+use Rattle.journal_store.specs.Images.{OnlyReads}
 use Rattle.shard_book.specs.declared.replay.LoadFault.TheVariants.{StoreFault}
 use Rattle.shard_book.specs.declared.replay.LoadFault.{LoadFault}
 use Rattle.shard_book.specs.declared.replay.Taken.{Taken}

@@ -15,7 +15,7 @@ use Rattle.issuer_setup.specs.IssuerSetup.{Setup}
 use Rattle.journal_rec.specs.Record.{IsRecord, IsLineOf}
 use Rattle.journal_rec.specs.RecordText.{newline, text_of, texts_of, journal_text, version_line, IsUnbroken}
 use Rattle.journal_rec.proofs.TextLaws.{length-text_of, text_of-apart, text_of-IsLine, texts_of-one_reading}
-use Rattle.record_store.specs.Holding.{Holds}
+use Rattle.journal_store.specs.Holding.{Holds}
 use Rattle.shard_book.specs.declared.replay.LoadFault.{LoadFault}
 use Rattle.shard_book.specs.declared.replay.LoadFault.TheVariants.{OldLine, OldRecord, BadLine, BadRecord, StoreFault, NoMemory}
 use Rattle.shard_book.specs.declared.shard.Shard.{Shard}

@@ -8,7 +8,7 @@ use Rattle.issuer_base.specs.declared.entry.Entry.{Entry}
 use Rattle.issuer_base.specs.declared.entry.Entry.TheVariants.{Decided, Queued, Status}
 use Rattle.card_history.specs.declared.decision.Asked.TheVariants.{Decide}
 use Rattle.card_history.specs.LegalRecords.{IsLegal, IsLegalDecision, IsLegalHistory}
-use Rattle.card_history.specs.Records.{card_of, greatest, IsBelowBy}
+use Rattle.card_history.specs.Records.{card_of, greatest_atc, IsBelowBy}
 use Rattle.card_history.specs.Turns.{IsUnused, decided_for}
 use Rattle.issuer_setup.specs.IssuerSetup.{Setup}
 use Rattle.line_checks.specs.Reading.{checked}
@@ -20,7 +20,7 @@ use Rattle.row_core.proofs.AcceptLemmas.{below-narrower}
 module _ (issuer : Setup) (window : ℕ) (IsReply : List Entry → Request → Reply → Type 0) (shard : ℕ) (before : List Entry)
     (request : Request) (reply : Reply) where
   pub legal-by : IsCardOfShard issuer shard (card_of request) → checked issuer request ≡ Ok (Decide request)
-      → (IsBelowBy window (greatest (decided_for request before)) request.atc → ⊥)
+      → (IsBelowBy window (greatest_atc (decided_for request before)) request.atc → ⊥)
       → All (λ decision. decision.request.atc ≢ request.atc) (decided_for request before) → IsReply before request reply
       → IsLegalDecision (grounds_by issuer window IsReply) shard before request reply
   legal-by home passes in_window unrecorded made =
@@ -60,7 +60,7 @@ wider-legal issuer shard before (Decided request reply) legal = record {
   has_valid_ac = legal.has_valid_ac;
   unrecorded = legal.unrecorded;
   in_window = λ below.
-      legal.in_window (below-narrower OLD_WINDOW (greatest (decided_for request before)) request.atc (omega arith) below);
+      legal.in_window (below-narrower OLD_WINDOW (greatest_atc (decided_for request before)) request.atc (omega arith) below);
   is_the_issuers_reply = legal.is_the_issuers_reply;
 }
 wider-legal issuer shard before (Queued pan psn command) legal =

@@ -10,7 +10,8 @@ use Rattle.issuer_base.specs.ChipData.{is_bcd}
 use Rattle.issuer_base.specs.ScriptCommand.{is_command}
 use Rattle.card_history.specs.declared.decision.Asked.TheVariants.{Decide}
 use Rattle.card_history.specs.LegalRecords.{IsLegalDecision, IsLegalCommand, IsLegalStatus}
-use Rattle.card_history.specs.Records.{CardName, card_of}
+use Rattle.issuer_base.specs.CardNames.{CardName}
+use Rattle.card_history.specs.Records.{card_of}
 use Rattle.card_history.specs.Scripts.{waiting, scripts_of}
 use Rattle.card_history.specs.Turns.{IsUnused, decided_for}
 use Rattle.script_queue.specs.CommandQueue.{TakesOneMore}

@@ -10,7 +10,7 @@ use Rattle.issuer_base.proofs.Moments.{LeavesOnly-passes, LeavesOnly-then, Leave
 use Rattle.issuer_base.proofs.ToldTwice.{BothTold-then, BothTold-weaker}
 use Rattle.journal_rec.specs.Record.{IsRecord}
 use Rattle.journal_rec.specs.RecordText.{journal_text}
-use Rattle.record_store.specs.Images.{IsCutImage, IsKept, OnlyReads}
+use Rattle.journal_store.specs.Images.{IsCutImage, IsKept, OnlyReads}
 use Rattle.shard_book.specs.declared.replay.Version.TheVariants.{One, Two}
 use Rattle.shard_book.specs.Migrating.{IsMoving, PassesMoving}
 use Rattle.shard_book.specs.Shards.{IsCutToText, IsFailedImage, IsLoadImage, IsMigrated}

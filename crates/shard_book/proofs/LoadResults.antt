@@ -12,8 +12,8 @@ use Rattle.issuer_base.proofs.ManyCalls.{CountsFaults-then}
 use Rattle.issuer_setup.specs.IssuerSetup.{Setup}
 use Rattle.journal_rec.specs.Record.{IsRecord}
 use Rattle.journal_rec.specs.RecordText.{journal_text}
-use Rattle.record_store.specs.Holding.{Holds}
-use Rattle.record_store.specs.Images.{IsCutImage}
+use Rattle.journal_store.specs.Holding.{Holds}
+use Rattle.journal_store.specs.Images.{IsCutImage}
 use Rattle.shard_book.specs.declared.replay.LoadFault.{LoadFault}
 use Rattle.shard_book.specs.declared.replay.LoadFault.TheVariants.{StoreFault}
 use Rattle.shard_book.specs.declared.replay.Taken.{Taken}
@@ -26,7 +26,7 @@ use Rattle.shard_book.specs.Loads.{CountsBoth, HaveRoom, IsLoadedFrom, IsNotLoad
 use Rattle.shard_book.specs.Migrating.{Continues, Moves}
 use Rattle.shard_book.specs.Room.{LoadsWithin}
 use Rattle.shard_book.specs.ShardRows.{ShardRows, AreRowsOf, RowsStandFor}
-use Rattle.shard_book.specs.Shards.{disk_in, faults_in, places_in, told_in, IsUndoubted, IsJournalOf, IsLoaded}
+use Rattle.shard_book.specs.Shards.{disk_in, faults_in, places_in, reported_in, IsUndoubted, IsJournalOf, IsLoaded}
 use Rattle.shard_book.specs.Shards.{IsCutToText, IsMigrated, IsTakenFor, LeavesBytes}
 use Rattle.shard_book.specs.Versions.{HasText, IsPartOf}
 use Rattle.shard_book.proofs.BothStores.{counts-still}
@@ -167,7 +167,7 @@ module _ {S : Type 0} (G : Ghosts S) where
           → ((text rest : List ℕ) → length text ≡ taken.bytes → Tells (G.bytes mid) (text ++ rest)
           → IfOk result (λ loaded. Holds loaded.journal taken.records text []))
           → IfOk result (λ loaded. places_in loaded ≡ taken.records)
-          → IfOk result (λ loaded. told_in loaded ≡ 0)
+          → IfOk result (λ loaded. reported_in loaded ≡ 0)
           → IfOk result IsUndoubted
           → IfOk result (λ loaded. BothTold (λ old new. LeavesOnly (IsCutImage taken.bytes old.now) old new) (G.disk mid) (disk_in loaded))
           → IfOk result (λ loaded. CountsFaults (G.faults mid) (faults_in loaded) false)

@@ -7,8 +7,8 @@ use Rattle.card_history.specs.LegalRecords.{IsLegalHistory}
 use Rattle.issuer_setup.specs.IssuerSetup.{Setup}
 use Rattle.journal_rec.specs.Record.{IsRecord}
 use Rattle.journal_rec.specs.RecordText.{journal_text}
-use Rattle.record_store.specs.Images.{OnlyReads}
-use Rattle.record_store.proofs.ReadSoFar.{reads-then}
+use Rattle.journal_store.specs.Images.{OnlyReads}
+use Rattle.journal_store.proofs.ReadSoFar.{reads-then}
 use Rattle.shard_book.specs.declared.replay.LoadFault.{LoadFault}
 use Rattle.shard_book.specs.declared.replay.LoadFault.TheVariants.{OldLine, OldRecord, BadLine, BadRecord, StoreFault, NoMemory}
 use Rattle.shard_book.specs.declared.replay.Version.TheVariants.{One, Two}

@@ -7,7 +7,8 @@ use Rattle.counter_bits.specs.CounterSets.{CounterSets, has}
 use Rattle.issuer_base.specs.declared.entry.Entry.{Entry}
 use Rattle.issuer_base.specs.declared.entry.Entry.TheVariants.{Decided, Queued, Status}
 use Rattle.card_history.specs.declared.decision.Decision.{Decision}
-use Rattle.card_history.specs.Records.{CardName, is_of, card_in, decided}
+use Rattle.issuer_base.specs.CardNames.{CardName}
+use Rattle.card_history.specs.Records.{is_of, card_in, decided}
 use Rattle.card_history.proofs.CardNames.{is_of-card_of, is_of-other}
 use Rattle.card_history.proofs.OneMoreRecord.{decided-more, decided-other}
 use Rattle.card_history.proofs.OtherRecords.{decided-queued, decided-status}

@@ -13,7 +13,7 @@ use Rattle.issuer_base.specs.Stores.{Disk, Moment, BothTold, AppendsToBytes, App
 use Rattle.issuer_base.proofs.Moments.{Passes-then, Passes-weaker}
 use Rattle.issuer_base.proofs.ToldTwice.{BothTold-then, BothTold-weaker}
 use Rattle.journal_rec.specs.RecordText.{newline, version_line}
-use Rattle.record_store.specs.Images.{IsKept, OnlyReads}
+use Rattle.journal_store.specs.Images.{IsKept, OnlyReads}
 use Rattle.shard_book.specs.declared.replay.LoadFault.{LoadFault}
 use Rattle.shard_book.specs.declared.replay.LoadFault.TheVariants.{BadLine}
 use Rattle.shard_book.specs.Loading.{DiffersAt, IsOutside, newlines_in}

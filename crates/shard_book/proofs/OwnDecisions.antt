@@ -13,9 +13,9 @@ use Rattle.tlv_objects.specs.Writing.{object_text}
 use Rattle.key_derive.specs.SessionKey.{session_of}
 use Rattle.key_derive.specs.SuiteKey.{SuiteKey}
 use Rattle.key_derive.specs.declared.card.CardKeys.{CardKeys}
-use Rattle.cryptogram_in.specs.Cryptogram.{input, cryptogram_under, application_cryptogram}
-use Rattle.arpc_methods.specs.Arpc.{method2, value91}
-use Rattle.arpc_methods.proofs.Lengths.{length-method2-by}
+use Rattle.line_checks.specs.Cryptogram.{input, cryptogram_under, application_cryptogram}
+use Rattle.row_core.specs.Arpc.{method2, value91}
+use Rattle.row_core.proofs.Lengths.{length-method2-by}
 use Rattle.decision_table.specs.declared.row.TableRow.{TableRow}
 use Rattle.decision_table.specs.Fitting.{decision}
 use Rattle.decision_table.specs.Tables.{tells_approval}

@@ -13,15 +13,15 @@ use Rattle.issuer_base.specs.declared.entry.Entry.{Entry}
 use Rattle.issuer_base.specs.declared.entry.Entry.TheVariants.{Decided, Queued, Status}
 use Rattle.card_history.specs.declared.decision.Asked.TheVariants.{Decide}
 use Rattle.card_history.specs.LegalRecords.{IsLegal, IsLegalHistory}
-use Rattle.card_history.specs.Records.{named}
+use Rattle.issuer_base.specs.CardNames.{named}
 use Rattle.issuer_setup.specs.IssuerSetup.{Setup}
 use Rattle.journal_rec.specs.Record.{IsRecord, IsLineOf}
 use Rattle.journal_rec.specs.RecordText.{newline, text_of, texts_of, IsUnbroken}
 use Rattle.journal_rec.proofs.TextLaws.{text_of-IsLine}
 use Rattle.line_checks.specs.declared.checked.CheckedOrder.{CheckedOrder}
 use Rattle.line_checks.specs.AtHand.{record_of}
-use Rattle.line_checks.specs.declared.sought.Sought.{Sought}
-use Rattle.line_checks.specs.declared.sought.Sought.TheVariants.{Request as IsRequest, Order}
+use Rattle.line_checks.specs.declared.looked_up.LookedUp.{LookedUp}
+use Rattle.line_checks.specs.declared.looked_up.LookedUp.TheVariants.{Request as IsRequest, Order}
 use Rattle.line_checks.specs.LookedUp.{IsLookedUpAgain, IsReady}
 use Rattle.shard_book.specs.declared.replay.LoadFault.{LoadFault}
 use Rattle.shard_book.specs.declared.replay.Taken.{Taken}
@@ -108,7 +108,7 @@ no-entries (entry ∷ entries) none = absurd (omega (arith, none))
 
 -- ---- what was looked up
 
-pub looked-again : (issuer : Setup) (entry : Entry) (old new : Result Sought Refusal) → IsLookedUp issuer entry old → IsLookedUpAgain issuer old new
+pub looked-again : (issuer : Setup) (entry : Entry) (old new : Result LookedUp Refusal) → IsLookedUp issuer entry old → IsLookedUpAgain issuer old new
     → IsLookedUp issuer entry new
 looked-again issuer (Decided request reply) (Ok (IsRequest old)) (Ok (IsRequest new)) its again = (again.request_is ∙ its.0, again.at_hand)
 looked-again issuer (Decided request reply) (Ok (IsRequest old)) (Ok (Order new)) its again = absurd cc
@@ -118,7 +118,7 @@ looked-again issuer (Status pan psn status) (Ok (IsRequest old)) new its again =
 looked-again issuer entry (Ok (Order old)) new its again = subst (IsLookedUp issuer entry) (sym again) its
 looked-again issuer entry (Err refusal) new its again = subst (IsLookedUp issuer entry) (sym again) its
 
-pub all-again : (issuer : Setup) (entries : List Entry) (old new : List (Result Sought Refusal)) → AllZip (IsLookedUp issuer) entries old
+pub all-again : (issuer : Setup) (entries : List Entry) (old new : List (Result LookedUp Refusal)) → AllZip (IsLookedUp issuer) entries old
     → AllZip (IsLookedUpAgain issuer) old new → AllZip (IsLookedUp issuer) entries new
 all-again issuer [] [] [] its again = tt
 all-again issuer [] [] (n ∷ new) its again = absurd again
@@ -128,14 +128,14 @@ all-again issuer (entry ∷ entries) (o ∷ old) [] its again = absurd again
 all-again issuer (entry ∷ entries) (o ∷ old) (n ∷ new) its again =
     (looked-again issuer entry o n its.0 again.0, all-again issuer entries old new its.1 again.1)
 
-looked-ready : (issuer : Setup) (entry : Entry) (found : Result Sought Refusal) → IsLookedUp issuer entry found → IsReady issuer found
+looked-ready : (issuer : Setup) (entry : Entry) (found : Result LookedUp Refusal) → IsLookedUp issuer entry found → IsReady issuer found
 looked-ready issuer (Decided request reply) (Ok (IsRequest sought)) its = its.1
 looked-ready issuer (Queued pan psn command) (Ok (IsRequest sought)) its = absurd its
 looked-ready issuer (Status pan psn status) (Ok (IsRequest sought)) its = absurd its
 looked-ready issuer entry (Ok (Order order)) its = tt
 looked-ready issuer entry (Err refusal) its = tt
 
-pub all-ready : (issuer : Setup) (entries : List Entry) (found : List (Result Sought Refusal)) → AllZip (IsLookedUp issuer) entries found
+pub all-ready : (issuer : Setup) (entries : List Entry) (found : List (Result LookedUp Refusal)) → AllZip (IsLookedUp issuer) entries found
     → All (IsReady issuer) found
 all-ready issuer [] [] its = All-nil (IsReady issuer)
 all-ready issuer [] (f ∷ found) its = absurd its

@@ -8,7 +8,7 @@ use Rattle.issuer_base.specs.Stores.{HasRoom}
 use Rattle.journal_rec.specs.Record.{IsRecord}
 use Rattle.journal_rec.specs.RecordText.{text_of}
 use Rattle.journal_rec.proofs.TextLaws.{length-text_of, length-text_of-queued}
-use Rattle.record_store.proofs.Rooms.{room-left}
+use Rattle.journal_store.proofs.Rooms.{room-left}
 use Rattle.shard_book.specs.Room.{most_of}
 
 -- no text is longer than the longest of its kind

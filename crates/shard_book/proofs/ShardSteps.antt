@@ -11,13 +11,13 @@ use Rattle.issuer_base.proofs.Moments.{LeavesOnly-passes, LeavesOnly-weaker, Pas
 use Rattle.issuer_base.proofs.ToldTwice.{BothTold-weaker}
 use Rattle.card_history.specs.LegalRecords.{Grounds, IsLegal}
 use Rattle.issuer_setup.specs.IssuerSetup.{Setup}
-use Rattle.shard_book.specs.Answering.{told_after}
+use Rattle.shard_book.specs.Answering.{reported_after}
 use Rattle.journal_rec.specs.Record.{IsRecord}
 use Rattle.journal_rec.specs.RecordText.{text_of, texts_of, journal_text, version_line}
-use Rattle.record_store.specs.declared.journal.Journal.{Journal}
-use Rattle.record_store.specs.Holding.{Holds}
-use Rattle.record_store.specs.Images.{HasSafeText, IsImage, IsEitherImage}
-use Rattle.record_store.proofs.Passing.{leaves-image}
+use Rattle.journal_store.specs.declared.journal.Journal.{Journal}
+use Rattle.journal_store.specs.Holding.{Holds}
+use Rattle.journal_store.specs.Images.{HasSafeText, IsImage, IsEitherImage}
+use Rattle.journal_store.proofs.Passing.{leaves-image}
 use Rattle.shard_book.specs.declared.shard.Shard.{Shard}
 use Rattle.shard_book.specs.ShardRows.{ShardRows, AreSame, RowsStandFor}
 use Rattle.shard_book.specs.Grounds.{IsTail, IsImageOf, grounds_now}
@@ -118,7 +118,7 @@ stands-still issuer old new history entry rows stands valid legal failed = recor
 -- a shard whose journal has the record, and whose rows stand for it, stands for the history with it
 pub stands-with : {S : Type 0} {G : Ghosts S} (issuer : Setup) (number : ℕ) (journal : Journal S G) (mid rows : ShardRows) (told : ℕ) (history : List Entry)
     → mid.shard ≡ number → AreSame mid rows → RowsStandFor issuer rows history → HoldsHistory (grounds_now issuer) number journal history
-    → let shard : Shard S G = record { journal = journal; rows = rows; told = told } in StandsFor issuer shard history
+    → let shard : Shard S G = record { journal = journal; rows = rows; reported = told } in StandsFor issuer shard history
 stands-with {S} {G} issuer number journal mid rows told history number_is same stands holds = record {
   rows_stand = stands;
   journal_holds = subst (λ number. HoldsHistory (grounds_now issuer) number journal history) (sym (same.shard_is ∙ number_is)) holds;
@@ -131,12 +131,12 @@ adds-nothing issuer new history entry (Ok place) failed stands = absurd (let e :
 adds-nothing issuer new history entry (Err error) failed stands = stands
 
 -- one more answer that reported it is counted
-told-rises : (told : ℕ) → told_after told true ≡ 0 → ⊥
+told-rises : (told : ℕ) → reported_after told true ≡ 0 → ⊥
 told-rises zero none = cc
 told-rises (suc told) none = grind arith
 
 -- if no answer reported that the store failed, the last record was appended
 pub put-undoubted : {S : Type 0} {G : Ghosts S} {X E : Type 0} (told : ℕ) (new : Journal S G) (result : Result X E) → OnOk result (new.in_doubt ≡ false)
-    → told_after told (is_err result) ≡ 0 → new.in_doubt ≡ false
+    → reported_after told (is_err result) ≡ 0 → new.in_doubt ≡ false
 put-undoubted told new (Ok x) settled none = settled
 put-undoubted told new (Err error) settled none = absurd (told-rises told none)

@@ -7,11 +7,11 @@ use Rattle.issuer_base.specs.declared.answer.Answer.{Answer}
 use Rattle.issuer_base.specs.declared.answer.Answer.TheVariants.{Fresh, Kept, Refused}
 use Rattle.issuer_base.specs.declared.answer.Refusal.TheVariants.{Pending, StoreFault}
 use Rattle.issuer_base.specs.declared.entry.Entry.{Entry}
-use Rattle.issuer_base.specs.declared.limits.TheConstants.{MAX_FAULTS_TOLD}
+use Rattle.issuer_base.specs.declared.limits.TheConstants.{MAX_FAULTS_REPORTED}
 use Rattle.issuer_base.specs.declared.outside.store.Store.{Ghosts}
 use Rattle.card_history.specs.declared.decision.Asked.{Asked}
 use Rattle.card_history.specs.declared.decision.Asked.TheVariants.{Decide, Queue, Status}
-use Rattle.card_history.specs.Records.{CardName, named}
+use Rattle.issuer_base.specs.CardNames.{CardName, named}
 use Rattle.card_history.specs.Scripts.{waiting, scripts_of}
 use Rattle.card_history.specs.Turns.{IsUnused, decided_for, Answers, AnswersCommand, AnswersStatus}
 use Rattle.script_queue.specs.CommandQueue.{TakesOneMore}
@@ -32,9 +32,9 @@ tells_change (Kept at place reply) = false
 tells_change _ = true
 
 -- how many calls reported that the store failed, after one more call; the count saturates at a limit
-abbrev pub told_after : ℕ → Bool → ℕ
-told_after told true = if nat_lt told MAX_FAULTS_TOLD then told + 1 else told
-told_after told false = told
+abbrev pub reported_after : ℕ → Bool → ℕ
+reported_after reported true = if nat_lt reported MAX_FAULTS_REPORTED then reported + 1 else reported
+reported_after reported false = reported
 
 -- what may be answered to a request whose claim was won or not
 abbrev pub AnswersClaimed :

@@ -12,9 +12,9 @@ use Rattle.line_checks.specs.declared.checked.CheckedRequest.{CheckedRequest}
 use Rattle.line_checks.specs.AtHand.{IsOrderAtHand, IsRequestAtHand, number_of_order}
 use Rattle.line_checks.specs.Reading.{checked}
 use Rattle.shard_book.specs.declared.shard.Shard.{Shard}
-use Rattle.shard_book.specs.Answering.{is_store_fault, tells_change, told_after}
+use Rattle.shard_book.specs.Answering.{is_store_fault, tells_change, reported_after}
 use Rattle.shard_book.specs.Grounds.{grounds_now, IsImageOf}
-use Rattle.shard_book.specs.Shards.{number_in, IsUnder, HasCard, disk_in, faults_in, told_in, IsUndoubted, StandsFor}
+use Rattle.shard_book.specs.Shards.{number_in, IsUnder, HasCard, disk_in, faults_in, reported_in, IsUndoubted, StandsFor}
 
 module _ {S : Type 0} {G : Ghosts S} where
   -- a checked request for a shard of this issuer
@@ -53,7 +53,7 @@ module _ {S : Type 0} {G : Ghosts S} where
     -- the store's fault count increases just where the call reports that the store failed
     pub counts : CountsFaults (faults_in old) (faults_in new) failed
     -- the shard counts such calls
-    pub told_is : told_in new ≡ told_after (told_in old) failed
+    pub told_is : reported_in new ≡ reported_after (reported_in old) failed
     -- nothing is in doubt before the first of them
     pub undoubted : IsUndoubted old → IsUndoubted new
     -- the shard is one of this issuer's

@@ -5,7 +5,8 @@ use Rattle.issuer_base.specs.declared.answer.Reply.{Reply}
 use Rattle.issuer_base.specs.declared.entry.Entry.{Entry}
 use Rattle.issuer_base.specs.declared.limits.TheConstants.{OLD_WINDOW, WINDOW}
 use Rattle.card_history.specs.LegalRecords.{Grounds, IsLegal}
-use Rattle.card_history.specs.Records.{CardName, card_of}
+use Rattle.issuer_base.specs.CardNames.{CardName}
+use Rattle.card_history.specs.Records.{card_of}
 use Rattle.card_history.specs.Scripts.{scripts_of}
 use Rattle.key_derive.specs.declared.card.CardKeys.{CardKeys}
 use Rattle.issuer_setup.specs.declared.card.CardInfo.{CardInfo}
@@ -16,7 +17,7 @@ use Rattle.row_core.specs.Replying.{reply_to}
 use Rattle.line_checks.specs.RequestFacts.{HasItsKeys, HasValidAc}
 use Rattle.journal_rec.specs.Record.{IsRecord}
 use Rattle.journal_rec.specs.RecordText.{text_of, journal_text}
-use Rattle.record_store.specs.Images.{IsImage}
+use Rattle.journal_store.specs.Images.{IsImage}
 
 -- the card of this name is one of the shard's
 pub record IsCardOfShard (issuer : Setup) (shard : ℕ) (name : CardName) : Type 0 where

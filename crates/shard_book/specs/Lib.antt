@@ -15,3 +15,5 @@ pub mod Loads
 pub mod Migrating
 pub mod Room
 pub mod Taking
+pub use Rattle.row_core.specs.Replying
+pub use Rattle.row_core.specs.CardRow

@@ -5,13 +5,13 @@ use Rattle.issuer_base.specs.Stores.{BothTold, Disk, HasRoom, LeavesOnly}
 use Rattle.issuer_base.specs.declared.outside.store.Store.{Ghosts}
 use Rattle.issuer_setup.specs.IssuerSetup.{Setup}
 use Rattle.journal_rec.specs.RecordText.{version_line}
-use Rattle.record_store.specs.Images.{OnlyReads}
+use Rattle.journal_store.specs.Images.{OnlyReads}
 use Rattle.shard_book.specs.declared.replay.LoadFault.{LoadFault}
 use Rattle.shard_book.specs.declared.replay.LoadFault.TheVariants.{NoMemory}
 use Rattle.shard_book.specs.declared.shard.Shard.{Shard}
 use Rattle.shard_book.specs.Loading.{StopsText, is_store_failure}
 use Rattle.shard_book.specs.Room.{Spares}
-use Rattle.shard_book.specs.Shards.{IsUnder, disk_in, faults_in, places_in, told_in}
+use Rattle.shard_book.specs.Shards.{IsUnder, disk_in, faults_in, places_in, reported_in}
 use Rattle.shard_book.specs.Shards.{IsUndoubted, IsLoaded, IsLoadImage, IsFailedImage, LeavesBytes, LeavesDisk}
 
 -- how two fault counts change, each by failures of its own; a call failed just where one of them counted a failure
@@ -42,7 +42,7 @@ module _ {S : Type 0} {G : Ghosts S} where
     -- it has at most as many records as its store may have bytes
     pub few : places_in shard ≤ loaded_size (G.size old) (G.size store)
     -- none of its answers has reported that the store failed, and nothing is in doubt
-    pub untold : told_in shard ≡ 0
+    pub untold : reported_in shard ≡ 0
     pub undoubted : IsUndoubted shard
     -- meanwhile a crash leaves what it might leave before, a prefix of the old history's text, or the history's text
     pub leaves :

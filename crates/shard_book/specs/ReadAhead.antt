@@ -10,8 +10,8 @@ use Rattle.issuer_setup.specs.CardList.{number_of}
 use Rattle.issuer_setup.specs.IssuerSetup.{Setup}
 use Rattle.journal_rec.specs.Record.{IsRecord, IsLineOf}
 use Rattle.journal_rec.specs.RecordText.{texts_of}
-use Rattle.line_checks.specs.declared.sought.Sought.{Sought}
-use Rattle.line_checks.specs.declared.sought.Sought.TheVariants.{Request, Order}
+use Rattle.line_checks.specs.declared.looked_up.LookedUp.{LookedUp}
+use Rattle.line_checks.specs.declared.looked_up.LookedUp.TheVariants.{Request, Order}
 use Rattle.line_checks.specs.AtHand.{IsCardAtHand, number_of_order, record_of}
 use Rattle.line_checks.specs.LookedUp.{HasKeysAtHand}
 use Rattle.line_checks.specs.Reading.{checked}
@@ -23,10 +23,10 @@ use Rattle.shard_book.specs.Versions.{bad_record, grounds_in}
 -- records, and what was looked up for each
 pub record ReadAhead : Type 0 where
   pub entries : List Entry
-  pub found : List (Result Sought Refusal)
+  pub found : List (Result LookedUp Refusal)
 
 -- what was looked up for a record: a decision's request with its card and keys, another record's card, or a refusal
-abbrev pub IsLookedUp : Setup → Entry → Result Sought Refusal → Type 0
+abbrev pub IsLookedUp : Setup → Entry → Result LookedUp Refusal → Type 0
 IsLookedUp issuer (Decided request reply) (Ok (Request sought)) =
     (sought.request ≡ request) × HasKeysAtHand issuer sought
 IsLookedUp issuer (Decided request reply) (Err refusal) = checked issuer request ≡ Err refusal

@@ -1,15 +1,15 @@
 -- The history that a shard over a store stands for.
 use Rattle.std.specs.Prelude.{◌≡◌, ◌⊎◌, ◌≤◌, ℕ, false, List, [], ◌∷◌, ◌++◌, length, Option, Some, IfSome, IsSomeAnd, Result, MatchResult, All}
 use Rattle.issuer_base.specs.Stores.{Disk, Moment, MayLeave, BothTold}
-use Rattle.record_store.specs.Images.{OnlyReads}
+use Rattle.journal_store.specs.Images.{OnlyReads}
 use Rattle.issuer_base.specs.declared.outside.store.Store.{Ghosts}
 use Rattle.issuer_base.specs.declared.entry.Entry.{Entry}
 use Rattle.card_history.specs.LegalRecords.{Grounds, IsLegal}
 use Rattle.issuer_setup.specs.IssuerSetup.{Setup}
 use Rattle.journal_rec.specs.Record.{IsRecord}
 use Rattle.journal_rec.specs.RecordText.{journal_text}
-use Rattle.record_store.specs.declared.journal.Journal.{Journal}
-use Rattle.record_store.specs.Holding.{Holds}
+use Rattle.journal_store.specs.declared.journal.Journal.{Journal}
+use Rattle.journal_store.specs.Holding.{Holds}
 use Rattle.shard_book.specs.declared.replay.LoadFault.{LoadFault}
 use Rattle.shard_book.specs.declared.replay.LoadFault.TheVariants.{StoreFault as StoreFailed}
 use Rattle.shard_book.specs.declared.shard.Shard.{Shard}
@@ -53,8 +53,8 @@ module _ {S : Type 0} {G : Ghosts S} where
   places_in shard = shard.journal.records
 
   -- how many of its calls reported that its store failed
-  abbrev pub told_in : Shard S G → ℕ
-  told_in shard = shard.told
+  abbrev pub reported_in : Shard S G → ℕ
+  reported_in shard = shard.reported
 
   -- its store has the text of the history, all of it durable, and after it at most a prefix of this tail
   abbrev pub HasTail : Shard S G → List Entry → List ℕ → Type 0
@@ -62,7 +62,7 @@ module _ {S : Type 0} {G : Ghosts S} where
 
   -- nothing is in doubt unless one of its calls reported that its store failed
   abbrev pub IsUndoubted : Shard S G → Type 0
-  IsUndoubted shard = shard.told ≡ 0 → shard.journal.in_doubt ≡ false
+  IsUndoubted shard = shard.reported ≡ 0 → shard.journal.in_doubt ≡ false
 
   -- what is observable of its store's disk, and the store's fault count
   abbrev pub disk_in : Shard S G → Option Disk

@@ -3,7 +3,8 @@ ghost use Rattle.std.specs.Prelude.{◌≡◌, ◌↔◌, ℕ, ◌≤◌, List, 
 ghost use Rattle.issuer_base.specs.declared.entry.Entry.{Entry};
 ghost use Rattle.issuer_base.specs.ScriptCommand.{is_command};
 ghost use Rattle.card_history.specs.LegalRecords.{IsLegal, IsLegalDecision, IsLegalCommand, IsLegalStatus};
-ghost use Rattle.card_history.specs.Records.{card_of, named};
+ghost use Rattle.issuer_base.specs.CardNames.{named};
+ghost use Rattle.card_history.specs.Records.{card_of};
 ghost use Rattle.key_derive.specs.SessionKey.{session_of};
 ghost use Rattle.issuer_setup.specs.declared.card.CardInfo.{CardInfo};
 ghost use Rattle.issuer_setup.specs.CardList.{name_of};
@@ -22,7 +23,7 @@ use crate::replay::Version;
 use crate::rows::Rows;
 use issuer_base::{Entry, MAX_STATUS, Refusal, Reply};
 use issuer_setup::Issuer;
-use line_checks::{CheckedCommand, CheckedOrder, CheckedStatus, Sought, SoughtRequest};
+use line_checks::{CheckedCommand, CheckedOrder, CheckedStatus, LookedUp, LookedUpRequest};
 
 impl Rows {
     /// Replays the record with this index if it is a valid successor. `found` is what was looked up for it. The result is
@@ -32,7 +33,7 @@ impl Rows {
         version: Version,
         issuer: &Issuer,
         entry: &Entry,
-        found: &Result<Sought, Refusal>,
+        found: &Result<LookedUp, Refusal>,
         place: u64,
     ) -> bool
         requires rows { AreRowsOf issuer.now self.old }
@@ -48,13 +49,13 @@ impl Rows {
             return false;
         };
         match found {
-            Sought::Request(sought) => {
+            LookedUp::Request(sought) => {
                 let Entry::Decided { reply, .. } = entry else {
                     return false;
                 };
                 self.adopt_decision(version, issuer, sought, reply, place)
             }
-            Sought::Order(order) => self.adopt_order(issuer, order),
+            LookedUp::Order(order) => self.adopt_order(issuer, order),
         }
     }
 
@@ -63,7 +64,7 @@ impl Rows {
         &mut self,
         version: Version,
         issuer: &Issuer,
-        sought: &SoughtRequest,
+        sought: &LookedUpRequest,
         reply: &Reply,
         place: u64,
     ) -> bool

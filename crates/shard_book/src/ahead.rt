@@ -10,7 +10,7 @@ use issuer_base::{Entry, NoMemory, Refusal};
 use issuer_setup::Issuer;
 use journal_rec::read_entry;
 use line_checks::{
-    CheckedCommand, CheckedOrder, CheckedStatus, MOST_AHEAD, Sought, check_in_lanes,
+    CheckedCommand, CheckedOrder, CheckedStatus, LookedUp, MOST_AHEAD, check_in_lanes,
     look_up_request,
 };
 use std::alloc::Global;
@@ -22,7 +22,7 @@ use std::marker::Model;
 #[derive(Drop)]
 pub(crate) struct Ahead {
     entries: Vec<Entry>,
-    found: Vec<Result<Sought, Refusal>>,
+    found: Vec<Result<LookedUp, Refusal>>,
 }
 
 impl Model for Ahead {
@@ -60,7 +60,7 @@ impl Ahead {
     }
 
     /// What was looked up for each of them.
-    pub(crate) fn found(&self) -> &[Result<Sought, Refusal>]
+    pub(crate) fn found(&self) -> &[Result<LookedUp, Refusal>]
         ensures { result.now ≡ self.now.found }
     {
         self.found.as_slice()
@@ -120,17 +120,17 @@ impl Ahead {
 }
 
 /// Looks up the card of a record, and where the card's keys are for the request of a decision. It uses no key.
-pub(crate) fn look_up_record(issuer: &Issuer, entry: &Entry) -> Result<Sought, Refusal>
+pub(crate) fn look_up_record(issuer: &Issuer, entry: &Entry) -> Result<LookedUp, Refusal>
     ensures { IsLookedUp issuer.now entry.now result }
 {
     match entry {
         Entry::Decided { request, .. } => {
             let sought = look_up_request(issuer, *request)?;
-            Ok(Sought::Request(sought))
+            Ok(LookedUp::Request(sought))
         }
         Entry::Queued { pan, psn, command } => {
             let card = issuer.card(pan, *psn).ok_or(Refusal::UnknownCard)?;
-            Ok(Sought::Order(CheckedOrder::Command(CheckedCommand {
+            Ok(LookedUp::Order(CheckedOrder::Command(CheckedCommand {
                 pan: *pan,
                 psn: *psn,
                 command: command.copy(),
@@ -139,7 +139,7 @@ pub(crate) fn look_up_record(issuer: &Issuer, entry: &Entry) -> Result<Sought, R
         }
         Entry::Status { pan, psn, status } => {
             let card = issuer.card(pan, *psn).ok_or(Refusal::UnknownCard)?;
-            Ok(Sought::Order(CheckedOrder::Status(CheckedStatus {
+            Ok(LookedUp::Order(CheckedOrder::Status(CheckedStatus {
                 pan: *pan,
                 psn: *psn,
                 status: *status,

@@ -4,7 +4,7 @@ ghost use Rattle.issuer_base.specs.OutsideFaults.{CountsFaults};
 ghost use Rattle.issuer_base.specs.Stores.{BothTold, HasRoom, WorksWithin};
 ghost use Rattle.issuer_base.specs.declared.limits.TheConstants.{MAX_STORE_BYTES};
 ghost use Rattle.journal_rec.specs.RecordText.{version_line};
-ghost use Rattle.record_store.specs.Images.{OnlyReads};
+ghost use Rattle.journal_store.specs.Images.{OnlyReads};
 ghost use Rattle.shard_book.specs.Loading.{IsOutside, is_by_store, is_store_failure, newlines_in};
 ghost use Rattle.shard_book.specs.Loads.{CountsBoth, IsOnlyRead};
 ghost use Rattle.shard_book.specs.Migrating.{Agree, DiffersIn, IsTextAfter, PassesMoving};
@@ -13,7 +13,7 @@ ghost use Rattle.shard_book.specs.Versions.{IsPartOf};
 use crate::replay::LoadFault;
 use issuer_base::{MAX_STORE_BYTES, Store, StoreFail};
 use journal_rec::VERSION_LINE;
-use record_store::read_from;
+use journal_store::read_from;
 
 /// How many bytes the text of a journal of version 2 has whose records have so many.
 pub(crate) fn text_bytes(bytes: u64) -> u64

@@ -5,7 +5,7 @@ ghost use Rattle.issuer_base.specs.Stores.{BothTold, WorksWithin};
 ghost use Rattle.issuer_base.specs.declared.entry.Entry.{Entry};
 ghost use Rattle.issuer_setup.specs.IssuerSetup.{Setup};
 ghost use Rattle.journal_rec.specs.RecordText.{IsUnbroken};
-ghost use Rattle.record_store.specs.Images.{OnlyReads};
+ghost use Rattle.journal_store.specs.Images.{OnlyReads};
 ghost use Rattle.shard_book.specs.LineAhead.{HasLineAhead};
 ghost use Rattle.shard_book.specs.Loading.{IsWithin, ReadsFront, ReadsText, StopsReplay, is_by_store};
 ghost use Rattle.shard_book.specs.ShardRows.{ShardRows, AreRowsOf, AreSame, RowsStandFor};
@@ -16,7 +16,7 @@ use crate::rows::Rows;
 use issuer_base::{Store, StoreFail};
 use issuer_setup::Issuer;
 use journal_rec::MOST_RECORD_BYTES;
-use record_store::read_from;
+use journal_store::read_from;
 
 /// Replays the records of a store's whole lines after those that were replayed, which are a prefix of the store's text.
 pub(crate) fn take_text<S: Store>(

@@ -4,7 +4,8 @@ ghost use Rattle.issuer_base.specs.OutsideFaults.{CountsFaults};
 ghost use Rattle.issuer_base.specs.Stores.{BothTold, CutsBytes, HasRoom, LeavesOnly};
 ghost use Rattle.issuer_base.specs.declared.entry.Entry.{Entry};
 ghost use Rattle.card_history.specs.LegalRecords.{IsLegal};
-ghost use Rattle.card_history.specs.Records.{card_of, named};
+ghost use Rattle.issuer_base.specs.CardNames.{named};
+ghost use Rattle.card_history.specs.Records.{card_of};
 ghost use Rattle.issuer_setup.specs.declared.card.CardInfo.{CardInfo};
 ghost use Rattle.issuer_setup.specs.IssuerSetup.{Setup};
 ghost use Rattle.row_core.specs.Plan.{IsNext};
@@ -14,15 +15,15 @@ ghost use Rattle.journal_rec.specs.Record.{is_record, IsRecord};
 ghost use Rattle.journal_rec.specs.RecordText.{journal_text, text_of};
 ghost use Rattle.journal_rec.specs.declared.limits.TheConstants.{LEAST_RECORD_BYTES, MOST_QUEUED_BYTES, MOST_RECORD_BYTES};
 ghost use Rattle.issuer_base.specs.Tells.{Tells};
-ghost use Rattle.record_store.specs.Holding.{Holds};
-ghost use Rattle.record_store.specs.Images.{IsCutImage, IsEitherImage};
+ghost use Rattle.journal_store.specs.Holding.{Holds};
+ghost use Rattle.journal_store.specs.Images.{IsCutImage, IsEitherImage};
 ghost use Rattle.shard_book.specs.Loading.{IsOldText, IsWithin, IsOutside, is_store_failure};
 ghost use Rattle.shard_book.specs.Grounds.{grounds_now, IsImageOf};
 ghost use Rattle.shard_book.specs.Steps.{IsCardOf, IsLaunchAt};
-ghost use Rattle.shard_book.specs.Shards.{number_in, IsUnder, HasCard, store_in, sure_in, disk_in, faults_in, places_in, told_in, IsUndoubted, HoldsHistory, StandsFor, HasTail, Adds, IsTextOf, IsImageLeft, IsSettled, StandsForLeft};
+ghost use Rattle.shard_book.specs.Shards.{number_in, IsUnder, HasCard, store_in, sure_in, disk_in, faults_in, places_in, reported_in, IsUndoubted, HoldsHistory, StandsFor, HasTail, Adds, IsTextOf, IsImageLeft, IsSettled, StandsForLeft};
 ghost use Rattle.shard_book.specs.Recorded.{AddsRecorded};
 ghost use Rattle.shard_book.specs.Room.{most_of, UsesRoom, LoadsWithin};
-ghost use Rattle.shard_book.specs.Answering.{is_store_fault, tells_change, LeavesTail, told_after, AnswersClaimed, AnswersQueueing, AnswersSetting, AnswersOrder};
+ghost use Rattle.shard_book.specs.Answering.{is_store_fault, tells_change, LeavesTail, reported_after, AnswersClaimed, AnswersQueueing, AnswersSetting, AnswersOrder};
 ghost use Rattle.shard_book.specs.Calls.{AnswersBy, IsOrderFor, IsRequestFor, LeavesImages, KeepsCall, KeepsShard};
 ghost use Rattle.shard_book.specs.Loads.{HaveRoom, IsLoadedFrom, IsNotLoaded, IsOnlyRead};
 ghost use Rattle.shard_book.specs.Taking.{IsRecordFor, IsReplicaOf, KeepsReplica, LeavesReplicas, LeavesTaken, Takes, is_failed_store};
@@ -34,12 +35,12 @@ use crate::rows::Rows;
 use crate::taking::TakeFault;
 use arrayvec::ArrayVec;
 use issuer_base::{
-    Answer, Entry, MAX_FAULTS_TOLD, NoMemory, Refusal, Reply, Request, Store, StoreFail,
+    Answer, Entry, MAX_FAULTS_REPORTED, NoMemory, Refusal, Reply, Request, Store, StoreFail,
 };
 use issuer_setup::Issuer;
 use journal_rec::{write_decided, write_entry};
+use journal_store::Journal;
 use line_checks::{CheckedCommand, CheckedOrder, CheckedRequest, CheckedStatus};
-use record_store::Journal;
 use row_core::{Known, Launch, Row};
 use std::alloc::Global;
 
@@ -48,8 +49,8 @@ pub struct Shard<S: Store> {
     journal: Journal<S>,
     rows: Rows,
 
-    /// How many calls since loading reported that the store failed, counted up to [`MAX_FAULTS_TOLD`].
-    told: u64,
+    /// How many calls since loading reported that the store failed, counted up to [`MAX_FAULTS_REPORTED`].
+    reported: u64,
 }
 
 /// A store from which no shard was loaded, and why.
@@ -217,9 +218,9 @@ impl<S: Store> Shard<S> {
 
     /// How many calls since loading reported that the store failed. The count saturates at 2^62.
     pub fn faults(&self) -> u64
-        ensures { result ≡ told_in self.now }
+        ensures { result ≡ reported_in self.now }
     {
-        self.told
+        self.reported
     }
 
     /// Appends each recorded ATC of each card of the shard once, with the number of its card. If memory runs out,
@@ -244,7 +245,7 @@ impl<S: Store> Shard<S> {
         let Shard {
             journal,
             rows: _,
-            told: _,
+            reported: _,
         } = self;
         journal.into_store()
     }
@@ -346,7 +347,7 @@ impl<S: Store> Shard<S> {
             (disk_in self.old) (disk_in self.new) }
         ensures room { UsesRoom (most_of entry.now) (is_err result) self.old self.new }
         ensures count { CountsFaults (faults_in self.old) (faults_in self.new) (is_err result) }
-        ensures told { told_in self.new ≡ told_after (told_in self.old) (is_err result) }
+        ensures told { reported_in self.new ≡ reported_after (reported_in self.old) (is_err result) }
         ensures undoubted { IsUndoubted self.new }
     {
         self.put_text(write_entry(entry).as_slice())
@@ -366,11 +367,11 @@ impl<S: Store> Shard<S> {
             (disk_in self.old) (disk_in self.new) }
         ensures room { UsesRoom (length text.now) (is_err result) self.old self.new }
         ensures count { CountsFaults (faults_in self.old) (faults_in self.new) (is_err result) }
-        ensures told { told_in self.new ≡ told_after (told_in self.old) (is_err result) }
+        ensures told { reported_in self.new ≡ reported_after (reported_in self.old) (is_err result) }
         ensures undoubted { IsUndoubted self.new }
     {
         let written = self.journal.put(text);
-        self.told = told_after(self.told, written.is_err());
+        self.reported = reported_after(self.reported, written.is_err());
         written
     }
 }
@@ -381,7 +382,7 @@ fn open<S: Store>(store: S, rows: Rows, taken: Taken) -> Result<Shard<S>, LoadBa
     ensures rows { IfOk result (λ loaded. loaded.rows ≡ rows) }
     ensures sure { IfOk result (λ loaded. sure_in loaded ≡ taken.bytes) }
     ensures places { IfOk result (λ loaded. places_in loaded ≡ taken.records) }
-    ensures untold { IfOk result (λ loaded. told_in loaded ≡ 0) }
+    ensures untold { IfOk result (λ loaded. reported_in loaded ≡ 0) }
     ensures undoubted { IfOk result IsUndoubted }
     ensures holds { (text rest : List ℕ) → length text ≡ taken.bytes → Tells (S.bytes store) (text ++ rest)
         → IfOk result (λ loaded. Holds loaded.journal taken.records text []) }
@@ -399,7 +400,7 @@ fn open<S: Store>(store: S, rows: Rows, taken: Taken) -> Result<Shard<S>, LoadBa
         Ok(journal) => Ok(Shard {
             journal,
             rows,
-            told: 0,
+            reported: 0,
         }),
         Err(store) => Err(LoadBack {
             fault: LoadFault::StoreFault,
@@ -409,11 +410,11 @@ fn open<S: Store>(store: S, rows: Rows, taken: Taken) -> Result<Shard<S>, LoadBa
 }
 
 /// How many calls reported that the store failed, after one more call.
-fn told_after(told: u64, failed: bool) -> u64
-    ensures { result ≡ told_after told failed }
+fn reported_after(reported: u64, failed: bool) -> u64
+    ensures { result ≡ reported_after reported failed }
 {
-    if failed && told < MAX_FAULTS_TOLD {
-        return told + 1;
+    if failed && reported < MAX_FAULTS_REPORTED {
+        return reported + 1;
     }
-    told
+    reported
 }

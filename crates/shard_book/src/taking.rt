@@ -4,7 +4,7 @@ ghost use Rattle.issuer_base.specs.declared.entry.Entry.{Entry};
 ghost use Rattle.issuer_base.specs.declared.limits.TheConstants.{WINDOW};
 ghost use Rattle.issuer_base.specs.ScriptCommand.{is_command};
 ghost use Rattle.card_history.specs.LegalRecords.{IsLegal, IsLegalCommand, IsLegalDecision, IsLegalStatus};
-ghost use Rattle.card_history.specs.Records.{named};
+ghost use Rattle.issuer_base.specs.CardNames.{named};
 ghost use Rattle.journal_rec.specs.Record.{is_record};
 ghost use Rattle.key_derive.specs.SessionKey.{session_of};
 ghost use Rattle.shard_book.specs.Grounds.{grounds_of};

@@ -2,9 +2,8 @@
 ghost use Rattle.std.specs.Prelude.{◌≡◌, vec_len, IfOk};
 
 use crate::journals::{COMMAND, STATUS, store, two_shards};
-use journal_export::{ExportFault, Exporter};
+use journal_reader::{ExportFault, Exporter, RecordFault};
 use memory_edge::{MemorySink, MemoryStore};
-use record_reader::RecordFault;
 use std::alloc::Global;
 use std::test::Fail;
 

@@ -4,7 +4,7 @@ ghost use Rattle.shard_book.specs.Shards.{number_in, IsUnder};
 
 use issuer_base::{Answer, Refusal, Request, Store, Suite};
 use issuer_setup::Issuer;
-use line_checks::{Checked, check_line, check_request};
+use line_checks::{CheckedLine, check_line, check_request};
 use memory_edge::MemoryStore;
 use sample_issuer::{
     AES_CRYPTOGRAM, CARDS, CRYPTOGRAM, aes_purchase, declining_table, issuer, purchase,
@@ -101,7 +101,7 @@ pub(crate) fn set_status<S: Store>(shard: &mut Shard<S>, issuer: &Issuer) -> Opt
     ensures under { IsUnder issuer.now shard.new }
     ensures number { number_in shard.new ≡ 0 }
 {
-    let Ok(Checked::Order(found)) = check_line(issuer, b"S 4000000000000002 00 3") else {
+    let Ok(CheckedLine::Order(found)) = check_line(issuer, b"S 4000000000000002 00 3") else {
         return None;
     };
     if !is_home(issuer, found.card()) {

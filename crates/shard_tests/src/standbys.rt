@@ -1,13 +1,13 @@
 //! Feeds of two shards: what a standby takes of them, however they are cut.
 ghost use Rattle.std.specs.Prelude.{◌≡◌, ◌≤◌, length, vec_capacity, [], true, IfOk, IsTrue};
-ghost use Rattle.one_caller.specs.Hosts.{AreShards};
+ghost use Rattle.host_loading.specs.Hosts.{AreShards};
 ghost use Rattle.standby_node.specs.Standing.{live_in, shards_in};
 
 use crate::journals::{store, two_shards};
+use host_loading::{HostBack, Lists, load_all, take_lists, take_stores};
 use issuer_base::Store;
 use issuer_setup::Issuer;
 use memory_edge::MemoryStore;
-use one_caller::{HostBack, Lists, load_all, take_lists, take_stores};
 use standby_node::{FeedFault, Standby};
 use std::alloc::Global;
 use std::test::Fail;

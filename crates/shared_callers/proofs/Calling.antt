@@ -9,9 +9,9 @@ use Rattle.turn_book.specs.declared.view.TurnView.{TurnView}
 use Rattle.shared_shards.specs.declared.logs.LogItem.{LogItem}
 use Rattle.shared_shards.specs.declared.logs.LogHead.{LogHead}
 use Rattle.line_checks.specs.Reading.{reading}
-use Rattle.call_steps.specs.Authorising.{Authorises}
+use Rattle.shared_laws.specs.Authorising.{Authorises}
 use Rattle.answer_text.specs.AnswerText.{printed}
-use Rattle.answer_laws.specs.Callers.{AuthorisesAll}
+use Rattle.shared_laws.specs.Callers.{AuthorisesAll}
 use Rattle.shared_callers.proofs.Serving.{calls-line}
 
 -- the lines were answered, and these are the texts of the answers

@@ -7,8 +7,8 @@ use Rattle.std.proofs.Math.Seq.{map-set_same}
 use Rattle.std.proofs.Props.{props}
 use Rattle.std.specs.List.{slice_get}
 use Rattle.shared_seats.proofs.ManySeats.{lent_whole}
-use Rattle.answer_laws.specs.Dealing.{HaveTurns}
-use Rattle.answer_laws.proofs.HavingTurns.{at-set, turns-nothing}
+use Rattle.shared_laws.specs.Dealing.{HaveTurns}
+use Rattle.shared_laws.proofs.HavingTurns.{at-set, turns-nothing}
 use Rattle.shared_callers.specs.Handing.{KeepPlaces, LinesGoOver, TextsComeBack}
 use Rattle.shared_callers.specs.OneLane.{waiting_lines, answer_texts, lane_rooms}
 use Rattle.shared_callers.specs.Parts.{lines_of, texts_of, rooms_of}

@@ -21,22 +21,22 @@ use Rattle.turn_book.proofs.LogLemmas.{front_refl, front_trans, heads-length}
 use Rattle.shared_shards.specs.declared.logs.LogItem.{LogItem}
 use Rattle.shared_shards.specs.declared.logs.LogHead.{LogHead}
 use Rattle.shared_shards.specs.ShardLogs.{records_of, faults_of}
-use Rattle.call_steps.specs.Closing.{AreClosed, AreItsOwn, AreClaimsSettled}
-use Rattle.one_caller.specs.OneHistory.{LegallyGoesOn}
+use Rattle.shared_laws.specs.Closing.{AreClosed, AreItsOwn, AreClaimsSettled}
+use Rattle.shared_laws.specs.OneHistory.{LegallyGoesOn}
 use Rattle.host_calls.specs.Passes.{claims_of, logs_of}
 use Rattle.host_calls.specs.declared.pass.Pass.{Pass}
-use Rattle.one_caller.proofs.Places.{read-within, choose}
-use Rattle.answer_laws.specs.Callers.{Caller, IsCaller}
-use Rattle.answer_laws.specs.Dealing.{every}
+use Rattle.host_loading.proofs.Places.{read-within, choose}
+use Rattle.shared_laws.specs.Callers.{Caller, IsCaller}
+use Rattle.shared_laws.specs.Dealing.{every}
 use Rattle.shared_callers.specs.Joins.{HasJoined}
 use Rattle.shared_callers.specs.Lanes.{HasClosed}
 use Rattle.shared_callers.specs.OneLane.{HadLines}
 use Rattle.shared_callers.specs.Seated.{IsUntouched}
 use Rattle.shared_callers.specs.declared.lane.Lane.{Lane}
-use Rattle.answer_laws.proofs.CallersAnswers.{AreCallers, shares_of}
-use Rattle.answer_laws.proofs.Lawful.{lawful-shares}
-use Rattle.answer_laws.proofs.SharesOfCallers.{dealt-shares}
-use Rattle.answer_laws.proofs.Truncated.{whole-lines}
+use Rattle.shared_laws.proofs.CallersAnswers.{AreCallers, shares_of}
+use Rattle.shared_laws.proofs.Lawful.{lawful-shares}
+use Rattle.shared_laws.proofs.SharesOfCallers.{dealt-shares}
+use Rattle.shared_laws.proofs.Truncated.{whole-lines}
 
 -- ---- joining
 

@@ -4,9 +4,9 @@ use Rattle.std.proofs.lemmas.List.{length-map}
 use Rattle.std.proofs.lemmas.List.Elements.{All-get_or}
 use Rattle.std.proofs.lemmas.Option.{slice_get-get_or, slice_get_within, get_or_from_slice_get}
 use Rattle.std.specs.List.{slice_get}
-use Rattle.one_caller.proofs.Places.{read-map, read-mapped, read-other}
-use Rattle.answer_laws.specs.Dealing.{every, HaveTurns}
-use Rattle.answer_laws.proofs.HavingTurns.{some-same, at-set}
+use Rattle.host_loading.proofs.Places.{read-map, read-mapped, read-other}
+use Rattle.shared_laws.specs.Dealing.{every, HaveTurns}
+use Rattle.shared_laws.proofs.HavingTurns.{some-same, at-set}
 
 pub all-at : {X : Type 0} (P : X → Type 0) (xs : List X) → ((number : ℕ) (x : X) → slice_get xs number ≡ Some x → P x) → All P xs
 all-at P xs each = λ number d below. each number (get_or xs number d) (slice_get-get_or xs number d below)

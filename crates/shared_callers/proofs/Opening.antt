@@ -10,7 +10,7 @@ use Rattle.shared_shards.specs.declared.logs.LogItem.{LogItem}
 use Rattle.shared_shards.specs.declared.logs.LogItem.TheVariants.{Record}
 use Rattle.shared_shards.specs.declared.logs.LogHead.{LogHead}
 use Rattle.shared_shards.specs.ShardLogs.{faults_of}
-use Rattle.call_steps.specs.OpeningLogs.{AreOpenedFrom}
+use Rattle.shared_laws.specs.OpeningLogs.{AreOpenedFrom}
 use Rattle.host_calls.proofs.Sharing.{log-from}
 
 plain-map : (history : List Entry) → faults_of (map Record history) ≡ []

@@ -4,7 +4,7 @@ use Rattle.std.proofs.lemmas.List.{drop-append-le, length-drop, take-append-le}
 use Rattle.std.proofs.Math.Seq.{drop-append_seam, take-length}
 use Rattle.shared_callers.specs.declared.packed.Span.{Span}
 use Rattle.shared_callers.specs.KeptLines.{LiesIn, line_at}
-use Rattle.answer_laws.proofs.HavingTurns.{some-same}
+use Rattle.shared_laws.proofs.HavingTurns.{some-same}
 use Rattle.shared_callers.proofs.Lists.{at-all, maps-from}
 
 module _ (most : ℕ) (bytes line : List ℕ) where

@@ -10,13 +10,13 @@ use Rattle.shared_shards.specs.declared.logs.LogHead.{LogHead}
 use Rattle.answer_text.specs.AnswerText.{printed}
 use Rattle.host_calls.specs.declared.host.Host.{Host}
 use Rattle.host_calls.specs.declared.pass.Pass.{Pass}
-use Rattle.answer_laws.specs.Dealing.{HaveTurns}
+use Rattle.shared_laws.specs.Dealing.{HaveTurns}
 use Rattle.shared_callers.specs.Dealt.{HasDealt}
 use Rattle.shared_callers.specs.Halves.{HasDue, HasWaiting}
 use Rattle.shared_callers.specs.OneLane.{waiting_lines, answer_texts, passes_of, LanesAnswer}
 use Rattle.shared_callers.specs.Seated.{AreSeated}
 use Rattle.shared_callers.specs.Turns.{AreDue, AreWaiting, IsDue, IsWaiting}
-use Rattle.shared_callers.specs.declared.half.Half.{Half}
+use Rattle.shared_callers.specs.declared.half_block.HalfBlock.{HalfBlock}
 use Rattle.shared_callers.specs.declared.lane.Lane.{Lane}
 use Rattle.shared_callers.specs.declared.part.Part.{Part}
 use Rattle.shared_callers.proofs.Serving.{had-alike, had-more, more-answers, more-long, more-texts, seated-alike, seated-answered, texts-answered}
@@ -27,7 +27,7 @@ module _ {S : Type 0} {G : Ghosts S} (host : Host S G) (old mid done new : List 
   seated-round first seated =
       seated-alike host first done new back (seated-answered host first mid done answered (seated-alike host first old mid given seated))
 
-  module _ (opening : List (Log LogItem LogHead)) (half : Half) (lines waiting : List (List ℕ)) (answers due : List Answer)
+  module _ (opening : List (Log LogItem LogHead)) (half : HalfBlock) (lines waiting : List (List ℕ)) (answers due : List Answer)
       (dealt : HasDealt host.issuer opening old half lines answers due waiting) (turns : HaveTurns waiting_lines mid lines waiting)
       (some : 0 < length mid) (as_many : length mid ≡ length half.parts.items) where
     -- the answers to the lines that waited
@@ -50,7 +50,7 @@ module _ {S : Type 0} {G : Ghosts S} (host : Host S G) (old mid done new : List 
           turns = more-texts host mid done answered some lines waiting turns answers dealt.answered;
         }
 
-    pub dealt-round : (half_now : Half) (next : List (List ℕ)) → HasWaiting half_now (lines ++ waiting) next
+    pub dealt-round : (half_now : HalfBlock) (next : List (List ℕ)) → HasWaiting half_now (lines ++ waiting) next
         → HasDue half_now (map printed answers) (map printed more)
         → HasDealt host.issuer opening new half_now (lines ++ waiting) (answers ++ more) more next
     dealt-round half_now next waits dues = record {

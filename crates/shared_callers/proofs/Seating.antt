@@ -24,7 +24,7 @@ use Rattle.shared_callers.specs.Dealt.{HasDealt}
 use Rattle.shared_callers.specs.Halves.{HasDue, HasWaiting}
 use Rattle.shared_callers.specs.OneLane.{IsNewLane, HadLines, HaveAllHad}
 use Rattle.shared_callers.specs.Seated.{AreSeated}
-use Rattle.shared_callers.specs.declared.half.Half.{Half}
+use Rattle.shared_callers.specs.declared.half_block.HalfBlock.{HalfBlock}
 use Rattle.shared_callers.specs.declared.lane.Lane.{Lane}
 use Rattle.shared_callers.specs.declared.part.Part.{Part}
 use Rattle.shared_callers.proofs.Lists.{at-all}
@@ -102,7 +102,7 @@ pub new-all-had : (issuer : Setup) (opening : List (Log LogItem LogHead)) (lanes
 new-all-had issuer opening lanes new number lane is = at-all (IsNewLane issuer opening) lanes number lane new is
 
 -- and so it is with the host's lanes and half
-pub new-dealt : (issuer : Setup) (opening : List (Log LogItem LogHead)) (lanes : List Lane) (half : Half) → HasWaiting half [] [] → HasDue half [] []
+pub new-dealt : (issuer : Setup) (opening : List (Log LogItem LogHead)) (lanes : List Lane) (half : HalfBlock) → HasWaiting half [] [] → HasDue half [] []
     → All (IsNewLane issuer opening) lanes → HasDealt issuer opening lanes half [] [] [] []
 new-dealt issuer opening lanes half waits dues new = record {
   taken = [];

@@ -17,18 +17,18 @@ use Rattle.turn_book.specs.declared.view.TurnView.{TurnView}
 use Rattle.shared_shards.specs.declared.logs.LogItem.{LogItem}
 use Rattle.shared_shards.specs.declared.logs.LogHead.{LogHead}
 use Rattle.line_checks.specs.Reading.{reading}
-use Rattle.call_steps.specs.Authorising.{Authorises}
+use Rattle.shared_laws.specs.Authorising.{Authorises}
 use Rattle.answer_text.specs.AnswerText.{printed}
 use Rattle.host_calls.specs.Passes.{claims_of, logs_of, IsFree}
 use Rattle.host_calls.specs.declared.host.Host.{Host}
 use Rattle.host_calls.specs.declared.pass.Pass.{Pass}
-use Rattle.one_caller.proofs.Places.{choose, read-within}
-use Rattle.answer_laws.specs.Callers.{Caller, AuthorisesAll, IsCaller}
-use Rattle.answer_laws.specs.Dealing.{every, HaveTurns}
-use Rattle.answer_laws.proofs.Every.{left, every-append}
-use Rattle.answer_laws.proofs.HavingTurns.{some-same, turns-answered}
-use Rattle.answer_laws.proofs.Merged.{left-alike, merged}
-use Rattle.answer_laws.proofs.MoreLines.{calls-more}
+use Rattle.host_loading.proofs.Places.{choose, read-within}
+use Rattle.shared_laws.specs.Callers.{Caller, AuthorisesAll, IsCaller}
+use Rattle.shared_laws.specs.Dealing.{every, HaveTurns}
+use Rattle.shared_laws.proofs.Every.{left, every-append}
+use Rattle.shared_laws.proofs.HavingTurns.{some-same, turns-answered}
+use Rattle.shared_laws.proofs.Merged.{left-alike, merged}
+use Rattle.shared_laws.proofs.MoreLines.{calls-more}
 use Rattle.shared_callers.specs.OneLane.{waiting_lines, answer_texts, lane_rooms, passes_of, HadLines, HaveAllHad, LaneAnswers, LanesAnswer}
 use Rattle.shared_callers.specs.Seated.{AreSeated}
 use Rattle.shared_callers.specs.declared.lane.Lane.{Lane}

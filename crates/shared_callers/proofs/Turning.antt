@@ -6,9 +6,9 @@ use Rattle.std.proofs.Math.Logic.{∥∥₁_elim, ∥∥₁_map}
 use Rattle.std.proofs.Math.Nat.{zero-mod}
 use Rattle.std.proofs.Props.{props}
 use Rattle.std.specs.List.{slice_get}
-use Rattle.answer_laws.proofs.Every.{turn-next}
-use Rattle.answer_laws.proofs.HavingTurns.{length-same, turns-deal, turns-take, turns-none, turns-same}
-use Rattle.answer_laws.proofs.HavingTurns.{turns-nothing, turns-room}
+use Rattle.shared_laws.proofs.Every.{turn-next}
+use Rattle.shared_laws.proofs.HavingTurns.{length-same, turns-deal, turns-take, turns-none, turns-same}
+use Rattle.shared_laws.proofs.HavingTurns.{turns-nothing, turns-room}
 use Rattle.shared_callers.specs.Parts.{lines_of, texts_of}
 use Rattle.shared_callers.specs.Turns.{AreWaiting, AreDue, IsBehind, IsWaiting, IsDue}
 use Rattle.shared_callers.specs.declared.part.Part.{Part}

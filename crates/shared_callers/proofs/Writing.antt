@@ -10,9 +10,9 @@ use Rattle.line_reader.specs.Reading.{Reading, TakesInHand, kept}
 use Rattle.line_reader.specs.NextLine.{GivesInHand, GivesNone}
 use Rattle.line_reader.proofs.WholeLines.{TakesInHand-line, TakesInHand-no_call, TakesInHand-none, TakesInHand-then}
 use Rattle.shared_callers.specs.Halves.{HasDue, HasExchanged, HasSameRooms, HasWaiting}
-use Rattle.shared_callers.specs.declared.half.Half.{Half}
+use Rattle.shared_callers.specs.declared.half_block.HalfBlock.{HalfBlock}
 
-pub same-rooms : (old mid new : Half) → HasSameRooms old mid → HasSameRooms mid new → HasSameRooms old new
+pub same-rooms : (old mid new : HalfBlock) → HasSameRooms old mid → HasSameRooms mid new → HasSameRooms old new
 same-rooms old mid new first then = record { rooms = then.rooms ∙ first.rooms; room = then.room ∙ first.room }
 
 none-left : {A : Type 0} (items : List A) → 0 ≡ length items → items ≡ []
@@ -22,14 +22,14 @@ none-left (item ∷ items) long = absurd (omega arith)
 -- ---- texts
 
 -- of the texts that were due, the first ones were appended, and the others are due
-pub record AreAppended (half : Half) (taken due : List (List ℕ)) (text : List ℕ) : Type 0 where
+pub record AreAppended (half : HalfBlock) (taken due : List (List ℕ)) (text : List ℕ) : Type 0 where
   pub done : List (List ℕ)
   pub rest : List (List ℕ)
   pub all : due ≡ done ++ rest
   pub left : HasDue half (taken ++ done) rest
   pub text_is : text ≡ flat_map (λ text. text) done
 
-pub appended-none : (half : Half) (taken due : List (List ℕ)) (text : List ℕ) → text ≡ [] → HasDue half taken due → AreAppended half taken due text
+pub appended-none : (half : HalfBlock) (taken due : List (List ℕ)) (text : List ℕ) → text ≡ [] → HasDue half taken due → AreAppended half taken due text
 appended-none half taken due text none are = record {
   done = [];
   rest = due;
@@ -39,7 +39,7 @@ appended-none half taken due text none are = record {
 }
 
 -- one more was
-pub appended-more : (half after : Half) (taken due : List (List ℕ)) (text now : List ℕ)
+pub appended-more : (half after : HalfBlock) (taken due : List (List ℕ)) (text now : List ℕ)
     → ((taken due : List (List ℕ)) → HasDue half taken due
     → (first : List ℕ) × (rest : List (List ℕ)) × (due ≡ first ∷ rest) × HasDue after (taken ++ first ∷ []) rest × (now ≡ text ++ first))
     → AreAppended half taken due text → AreAppended after taken due now
@@ -60,7 +60,7 @@ appended-more half after taken due text now more so_far =
     }
 
 -- all were
-pub appended-all : (half : Half) (taken due : List (List ℕ)) (text : List ℕ) → half.due ≡ 0 → AreAppended half taken due text
+pub appended-all : (half : HalfBlock) (taken due : List (List ℕ)) (text : List ℕ) → half.due ≡ 0 → AreAppended half taken due text
     → HasDue half (taken ++ due) [] × (text ≡ flat_map (λ text. text) due)
 appended-all half taken due text none so_far =
     let nothing : so_far.rest ≡ [] = none-left so_far.rest (sym none ∙ so_far.left.count_is) in
@@ -74,12 +74,12 @@ appended-all half taken due text none so_far =
 -- ---- lines
 
 -- after those that waited, these lines were taken, and wait
-pub record AreTaken (half : Half) (before waiting : List (List ℕ)) (was now : Reading) : Type 0 where
+pub record AreTaken (half : HalfBlock) (before waiting : List (List ℕ)) (was now : Reading) : Type 0 where
   pub taken : List (List ℕ)
   pub waits : HasWaiting half before (waiting ++ map kept taken)
   pub in_hand : TakesInHand was taken now
 
-pub taken-none : (half : Half) (before waiting : List (List ℕ)) (was now : Reading) → TakesInHand was [] now → HasWaiting half before waiting
+pub taken-none : (half : HalfBlock) (before waiting : List (List ℕ)) (was now : Reading) → TakesInHand was [] now → HasWaiting half before waiting
     → AreTaken half before waiting was now
 taken-none half before waiting was now in_hand are = record {
   taken = [];
@@ -88,7 +88,7 @@ taken-none half before waiting was now in_hand are = record {
 }
 
 -- none was taken at last
-pub taken-last : (half : Half) (before waiting : List (List ℕ)) (was then now : Reading) → now.ahead ≡ then.ahead → GivesNone then now
+pub taken-last : (half : HalfBlock) (before waiting : List (List ℕ)) (was then now : Reading) → now.ahead ≡ then.ahead → GivesNone then now
     → AreTaken half before waiting was then → AreTaken half before waiting was now
 taken-last half before waiting was then now same none so_far = record {
   taken = so_far.taken;
@@ -98,7 +98,7 @@ taken-last half before waiting was then now same none so_far = record {
 }
 
 -- one more was
-pub taken-more : (half after : Half) (before waiting : List (List ℕ)) (was then now : Reading) (line : List ℕ) → GivesInHand then line now
+pub taken-more : (half after : HalfBlock) (before waiting : List (List ℕ)) (was then now : Reading) (line : List ℕ) → GivesInHand then line now
     → ((before waiting : List (List ℕ)) → HasWaiting half before waiting → HasWaiting after before (waiting ++ now.line ∷ []))
     → AreTaken half before waiting was then → AreTaken after before waiting was now
 taken-more half after before waiting was then now line gives deals so_far =
@@ -115,7 +115,7 @@ taken-more half after before waiting was then now line gives deals so_far =
 -- ---- both
 
 -- the sink failed, and no line was taken
-pub exchanged-failed : (old new : Half) (reading : Reading) (held_before held_after : Option (List ℕ)) (was : Result (Unit {0}) WriteFault)
+pub exchanged-failed : (old new : HalfBlock) (reading : Reading) (held_before held_after : Option (List ℕ)) (was : Result (Unit {0}) WriteFault)
     (fault : WriteFault) (result : Result (Unit {0}) WriteFault) → was ≡ Err fault → IsErr result
     → ((taken due : List (List ℕ)) → HasDue old taken due
     → HasDue new (taken ++ due) [] × WritesAll held_before held_after was (flat_map (λ text. text) due))

@@ -12,12 +12,12 @@ use Rattle.answer_text.specs.AnswerText.{printed}
 use Rattle.line_reader.specs.Reading.{Reading, TakesInHand, kept}
 use Rattle.shared_callers.specs.OneLane.{HaveAllHad}
 use Rattle.shared_callers.specs.Halves.{HasWaiting, HasDue}
-use Rattle.shared_callers.specs.declared.half.Half.{Half}
+use Rattle.shared_callers.specs.declared.half_block.HalfBlock.{HalfBlock}
 use Rattle.shared_callers.specs.declared.lane.Lane.{Lane}
 
 -- since the opening logs, the lanes' callers gave these answers to these lines; the texts of the answers `due`, which
 -- are the last, are due; these lines wait
-pub record HasDealt (issuer : Setup) (opening : List (Log LogItem LogHead)) (lanes : List Lane) (half : Half)
+pub record HasDealt (issuer : Setup) (opening : List (Log LogItem LogHead)) (lanes : List Lane) (half : HalfBlock)
     (lines : List (List ℕ)) (answers due : List Answer) (waiting : List (List ℕ)) : Type 0 where
   pub taken : List Answer
   pub answers_are : answers ≡ taken ++ due
@@ -28,7 +28,7 @@ pub record HasDealt (issuer : Setup) (opening : List (Log LogItem LogHead)) (lan
 
 -- a round: the lines that waited were answered, and their answers are due; meanwhile the answers that were due were
 -- written, and then lines in hand were taken, which wait now; if the sink failed, none was taken
-pub record DealsRound (issuer : Setup) (lanes_was lanes_is : List Lane) (half_was half_is : Half)
+pub record DealsRound (issuer : Setup) (lanes_was lanes_is : List Lane) (half_was half_is : HalfBlock)
     (input_was input_is : Reading) (held_before held_after : Option (List ℕ)) (result : Result (Unit {0}) WriteFault)
     : Type 0 where
   pub each : (opening : List (Log LogItem LogHead)) (lines : List (List ℕ)) (answers due : List Answer)

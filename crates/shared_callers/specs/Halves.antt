@@ -6,23 +6,23 @@ use Rattle.issuer_base.specs.declared.faults.WriteFault.{WriteFault}
 use Rattle.line_reader.specs.Reading.{Reading, TakesInHand, kept}
 use Rattle.shared_callers.specs.Parts.{rooms_of, texts_of}
 use Rattle.shared_callers.specs.Turns.{AreWaiting, AreDue}
-use Rattle.shared_callers.specs.declared.half.Half.{Half}
+use Rattle.shared_callers.specs.declared.half_block.HalfBlock.{HalfBlock}
 
 -- after those before, these lines wait
-abbrev pub HasWaiting : Half → List (List ℕ) → List (List ℕ) → Type 0
+abbrev pub HasWaiting : HalfBlock → List (List ℕ) → List (List ℕ) → Type 0
 HasWaiting half before waiting = AreWaiting half.parts.items half.first half.next half.waiting before waiting
 
 -- after those that were taken, these texts are due
-abbrev pub HasDue : Half → List (List ℕ) → List (List ℕ) → Type 0
+abbrev pub HasDue : HalfBlock → List (List ℕ) → List (List ℕ) → Type 0
 HasDue half taken due = AreDue texts_of half.parts.items half.from half.due taken due
 
 -- its parts have as much room as before
-pub record HasSameRooms (old new : Half) : Type 0 where
+pub record HasSameRooms (old new : HalfBlock) : Type 0 where
   pub rooms : rooms_of new.parts.items ≡ rooms_of old.parts.items
   pub room : new.room ≡ old.room
 
 -- the texts that were due were written, and then lines in hand were dealt, which wait; if the sink failed, none was
-pub record HasExchanged (old new : Half) (input_was input_is : Reading) (held_before held_after : Option (List ℕ))
+pub record HasExchanged (old new : HalfBlock) (input_was input_is : Reading) (held_before held_after : Option (List ℕ))
     (result : Result (Unit {0}) WriteFault) : Type 0 where
   pub written : (taken due : List (List ℕ)) → HasDue old taken due
       → HasDue new (taken ++ due) [] × WritesAll held_before held_after result (flat_map (λ text. text) due)

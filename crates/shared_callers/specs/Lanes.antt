@@ -8,10 +8,10 @@ use Rattle.turn_book.specs.declared.logs.Log.{Log}
 use Rattle.shared_shards.specs.ShardSeats.{opening_in}
 use Rattle.shared_shards.specs.declared.logs.LogItem.{LogItem}
 use Rattle.shared_shards.specs.declared.logs.LogHead.{LogHead}
-use Rattle.call_steps.specs.Closing.{AreClosed}
-use Rattle.call_steps.specs.OpeningLogs.{AreOpenedFrom}
-use Rattle.answer_laws.specs.Laws.{AreLawfulShares}
-use Rattle.answer_laws.specs.Shares.{Share, AreDealt}
+use Rattle.shared_laws.specs.Closing.{AreClosed}
+use Rattle.shared_laws.specs.OpeningLogs.{AreOpenedFrom}
+use Rattle.shared_laws.specs.Laws.{AreLawfulShares}
+use Rattle.shared_laws.specs.Shares.{Share, AreDealt}
 use Rattle.shared_callers.specs.Dealt.{HasDealt}
 use Rattle.shared_callers.specs.declared.lanes.Lanes.{Lanes}
 

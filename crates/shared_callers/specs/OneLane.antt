@@ -10,8 +10,8 @@ use Rattle.host_calls.specs.Passes.{claims_of, logs_of, IsFree}
 use Rattle.host_calls.specs.declared.host.Host.{Host}
 use Rattle.host_calls.specs.declared.pass.Pass.{Pass}
 use Rattle.answer_text.specs.AnswerText.{printed}
-use Rattle.answer_laws.specs.Callers.{Caller, AuthorisesAll, IsCaller}
-use Rattle.answer_laws.specs.Dealing.{every}
+use Rattle.shared_laws.specs.Callers.{Caller, AuthorisesAll, IsCaller}
+use Rattle.shared_laws.specs.Dealing.{every}
 use Rattle.shared_callers.specs.declared.lane.Lane.{Lane}
 use Rattle.shared_callers.specs.declared.lane.LaneRoom.{LaneRoom}
 

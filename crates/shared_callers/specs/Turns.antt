@@ -1,6 +1,6 @@
 -- Which lines and texts the parts have, if all are dealt in turns.
 use Rattle.std.specs.Prelude.{◌≡◌, ℕ, ◌+◌, ◌%◌, ◌<◌, List, ◌++◌, length}
-use Rattle.answer_laws.specs.Dealing.{HaveTurns}
+use Rattle.shared_laws.specs.Dealing.{HaveTurns}
 use Rattle.shared_callers.specs.Parts.{lines_of}
 use Rattle.shared_callers.specs.declared.part.Part.{Part}
 

@@ -3,9 +3,9 @@ ghost use Rattle.std.specs.Prelude.{◌≡◌, ◌<◌, ◌≤◌, ◌+◌, ℕ,
 ghost use Rattle.line_checks.specs.LookedUp.{AreLookUps, IsLookUp};
 ghost use Rattle.line_checks.specs.Reading.{reading};
 ghost use Rattle.line_checks.specs.declared.lines_ahead.TheConstants.{MOST_AHEAD};
-ghost use Rattle.call_steps.specs.Authorising.{Authorises};
+ghost use Rattle.shared_laws.specs.Authorising.{Authorises};
 ghost use Rattle.host_calls.specs.Passes.{claims_of, logs_of, IsFree};
-ghost use Rattle.shared_callers.specs.declared.half.TheConstants.{HALF_LINES};
+ghost use Rattle.shared_callers.specs.declared.half_block.TheConstants.{HALF_LINES};
 
 use crate::packed::PackedLines;
 use crate::part::Part;
@@ -13,7 +13,7 @@ use crate::texts::AnswerTexts;
 use crossbeam_utils::CachePadded;
 use host_calls::{Host, Pass};
 use issuer_base::{Answer, Gate, KEPT_BYTES, MAX_CHIP_BYTES, NoMemory, Refusal, Store};
-use line_checks::{LinesAhead, MOST_AHEAD, Sought, look_up};
+use line_checks::{LinesAhead, LookedUp, MOST_AHEAD, look_up};
 use std::alloc::Global;
 use std::sync::Wait;
 
@@ -152,7 +152,7 @@ fn answer_line<S: Store, R: Wait, G: Gate>(
     gate: &G,
     pass: &mut Pass,
     number: u64,
-    found: &Result<Sought, Refusal>,
+    found: &Result<LookedUp, Refusal>,
 ) -> Answer
     requires free { IsFree host.now pass.old }
     requires found { (line : List ℕ) × IsLookUp host.now.issuer line found.now }

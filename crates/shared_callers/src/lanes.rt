@@ -7,7 +7,7 @@ ghost use Rattle.shared_callers.specs.OneLane.{lane_rooms};
 ghost use Rattle.shared_callers.specs.Parts.{rooms_of};
 ghost use Rattle.shared_callers.specs.Seated.{AreSeated, IsPlain};
 
-use crate::half::Half;
+use crate::half_block::HalfBlock;
 use crate::lane::Lane;
 use crate::round::{answer_and_exchange, answer_lines};
 use host_calls::{Host, Pass};
@@ -29,7 +29,7 @@ pub struct Lanes<S: Store> {
     /// The pass that makes no calls. The others are joined into it.
     pub(crate) first: Pass,
     pub(crate) lanes: Vec<Lane>,
-    pub(crate) half: Half,
+    pub(crate) half: HalfBlock,
     ghost seated: { AreSeated host first lanes.items },
     ghost plain: { IsPlain host },
     ghost shards: { 0 < host.issuer.shards },

@@ -3,7 +3,7 @@
 #![tactic(auto)]
 
 mod close;
-mod half;
+mod half_block;
 mod lane;
 mod lanes;
 mod load;
@@ -12,6 +12,6 @@ mod part;
 mod round;
 mod texts;
 
-pub use half::HALF_LINES;
+pub use half_block::HALF_LINES;
 pub use host_calls::{HostBack, LoadFault};
 pub use lanes::Lanes;

@@ -1,15 +1,15 @@
 //! The loading of a host for several callers.
 ghost use Rattle.std.specs.Prelude.{◌≡◌, ℕ, ◌<◌, ◌≤◌, ◌/◌, [], length, vec_len, vec_capacity, All, IfOk, IfErr};
 ghost use Rattle.issuer_base.specs.declared.limits.TheConstants.{MAX_CALLERS};
-ghost use Rattle.call_steps.specs.OpeningLogs.{HostComesBackTogether};
-ghost use Rattle.one_caller.specs.Loading.{AreOnlyRead};
+ghost use Rattle.shared_laws.specs.OpeningLogs.{HostComesBackTogether};
+ghost use Rattle.host_loading.specs.Loading.{AreOnlyRead};
 ghost use Rattle.shared_shards.specs.ShardSeats.{opening_in};
 ghost use Rattle.shared_callers.specs.OneLane.{IsNewLane, places_in};
 ghost use Rattle.shared_callers.specs.Parts.{lines_of, texts_of};
 ghost use Rattle.shared_callers.specs.Seated.{AreSeated};
-ghost use Rattle.shared_callers.specs.declared.half.TheConstants.{HALF_LINES};
+ghost use Rattle.shared_callers.specs.declared.half_block.TheConstants.{HALF_LINES};
 
-use crate::half::{HALF_LINES, Half};
+use crate::half_block::{HALF_LINES, HalfBlock};
 use crate::lane::{Lane, LaneRoom};
 use crate::lanes::Lanes;
 use crate::part::Part;
@@ -78,7 +78,7 @@ impl<S: Store> Lanes<S> {
             host,
             first,
             lanes,
-            half: Half::new(parts, each),
+            half: HalfBlock::new(parts, each),
         })
     }
 }

@@ -1,6 +1,6 @@
 //! Lines in one buffer, one after another.
 ghost use Rattle.std.specs.Prelude.{◌≡◌, ◌<◌, ◌≤◌, [], ◌∷◌, ◌++◌, length, slice_get, Some, IfOk};
-ghost use Rattle.shared_callers.specs.declared.half.TheConstants.{HALF_LINES};
+ghost use Rattle.shared_callers.specs.declared.half_block.TheConstants.{HALF_LINES};
 
 use issuer_base::NoMemory;
 use std::alloc::Global;

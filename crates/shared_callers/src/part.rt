@@ -1,6 +1,6 @@
 //! What this thread exchanges with one caller: lines that wait for it, and the texts of its answers.
 ghost use Rattle.std.specs.Prelude.{◌≡◌, ◌≤◌, [], IfOk};
-ghost use Rattle.shared_callers.specs.declared.half.TheConstants.{HALF_LINES};
+ghost use Rattle.shared_callers.specs.declared.half_block.TheConstants.{HALF_LINES};
 
 use crate::lane::Lane;
 use crate::packed::PackedLines;

@@ -8,7 +8,7 @@ ghost use Rattle.shared_shards.specs.declared.logs.LogItem.{LogItem};
 ghost use Rattle.shared_shards.specs.declared.logs.LogHead.{LogHead};
 ghost use Rattle.host_calls.specs.Passes.{IsFree};
 ghost use Rattle.host_calls.specs.declared.pass.Pass.{Pass};
-ghost use Rattle.answer_laws.specs.Dealing.{HaveTurns};
+ghost use Rattle.shared_laws.specs.Dealing.{HaveTurns};
 ghost use Rattle.shared_callers.specs.Dealt.{HasDealt, DealsRound};
 ghost use Rattle.shared_callers.specs.Halves.{HasWaiting, HasDue, HasSameRooms, HasExchanged};
 ghost use Rattle.shared_callers.specs.Handing.{LinesGoOver, TextsComeBack};
@@ -17,7 +17,7 @@ ghost use Rattle.shared_callers.specs.Parts.{rooms_of};
 ghost use Rattle.shared_callers.specs.Seated.{AreSeated};
 ghost use Rattle.shared_callers.specs.Turns.{AreDue, IsDue};
 
-use crate::half::{Given, Half};
+use crate::half_block::{Given, HalfBlock};
 use crate::lane::Lane;
 use crate::part::Part;
 use host_calls::Host;
@@ -34,7 +34,7 @@ pub(crate) fn answer_lines<S: Store + Send, R: Threads + Wait + Sync, G: Gate + 
     host: &Host<S>,
     gate: &G,
     lanes: &mut [Lane],
-    half: &mut Half,
+    half: &mut HalfBlock,
 )
     requires free { All (λ lane. IsFree host.now lane.pass) lanes.old }
     requires rooms { lane_rooms lanes.old ≡ rooms_of half.old.parts.items }
@@ -59,7 +59,7 @@ pub(crate) fn answer_and_exchange<S, R, G, W>(
     host: &Host<S>,
     gate: &G,
     lanes: &mut [Lane],
-    half: &mut Half,
+    half: &mut HalfBlock,
     reader: &mut LineReader,
     block: &mut Block,
     out: &mut W,
@@ -94,7 +94,7 @@ fn exchange_beside<S, R, G, W>(
     rt: &R,
     host: &Host<S>,
     gate: &G,
-    half: &mut Half,
+    half: &mut HalfBlock,
     reader: &mut LineReader,
     block: &mut Block,
     out: &mut W,
@@ -128,7 +128,7 @@ fn exchange_beside_both<S, R, G, W>(
     rt: &R,
     host: &Host<S>,
     gate: &G,
-    half: &mut Half,
+    half: &mut HalfBlock,
     reader: &mut LineReader,
     block: &mut Block,
     out: &mut W,
@@ -218,7 +218,7 @@ fn answer_beside<S: Store + Send, R: Threads + Wait + Sync, G: Gate + Sync>(
     thread::join_mut(rt, &mut front, &mut back);
 }
 
-impl Half {
+impl HalfBlock {
     /// Gives the lines that wait to the lanes of their callers.
     fn give_lines(&mut self, lanes: &mut [Lane]) -> Given
         requires { lane_rooms lanes.old ≡ rooms_of self.old.parts.items }

@@ -3,7 +3,7 @@ ghost use Rattle.std.specs.Prelude.{◌≡◌, ◌+◌, ◌<◌, ◌≤◌, [], 
 ghost use Rattle.answer_text.specs.AnswerText.{printed};
 ghost use Rattle.line_blocks.specs.declared.block.TheConstants.{BLOCK_LINES};
 ghost use Rattle.shared_callers.specs.DueTexts.{MovesFirst};
-ghost use Rattle.shared_callers.specs.declared.half.TheConstants.{HALF_LINES};
+ghost use Rattle.shared_callers.specs.declared.half_block.TheConstants.{HALF_LINES};
 
 use crate::packed::PackedLines;
 use answer_text::{LINE_ROOM, write_answer};
@@ -29,7 +29,7 @@ pub(crate) struct AnswerTexts {
 
 impl Model for AnswerTexts {
     ghost use Rattle.std.specs.Prelude.{◌≤◌, length, drop};
-    ghost use Rattle.shared_callers.specs.declared.half.TheConstants.{HALF_LINES};
+    ghost use Rattle.shared_callers.specs.declared.half_block.TheConstants.{HALF_LINES};
     ghost use Rattle.shared_callers.specs.DueTexts.{DueTexts};
 
     ghost Value = { DueTexts };

@@ -14,7 +14,7 @@ use Rattle.issuer_base.specs.declared.answer.Answer.TheVariants.{Fresh, Kept, Qu
 use Rattle.issuer_base.specs.declared.answer.Refusal.TheVariants.{Below, Taken, QueueFull, Pending, StoreFault}
 use Rattle.issuer_base.specs.declared.entry.Entry.{Entry}
 use Rattle.issuer_base.specs.declared.entry.Entry.TheVariants.{Decided}
-use Rattle.issuer_base.specs.declared.limits.TheConstants.{MAX_FAULTS_TOLD}
+use Rattle.issuer_base.specs.declared.limits.TheConstants.{MAX_FAULTS_REPORTED}
 use Rattle.issuer_base.specs.declared.outside.store.Store.{Ghosts}
 use Rattle.card_history.specs.declared.decision.Asked.TheVariants.{Decide}
 use Rattle.card_history.specs.LegalRecords.{IsLegal, IsLegalHistory}
@@ -26,12 +26,12 @@ use Rattle.line_checks.specs.AtHand.{card_of_order, order_asked, record_of, IsOr
 use Rattle.line_checks.specs.Reading.{checked}
 use Rattle.line_checks.specs.declared.checked.CheckedOrder.{CheckedOrder}
 use Rattle.line_checks.specs.declared.checked.CheckedOrder.TheVariants.{Command as IsCommand, Status as IsStatus}
-use Rattle.row_core.specs.Replying.{reply_to}
+use Rattle.shard_book.specs.Replying.{reply_to}
 use Rattle.shard_book.specs.declared.shard.Shard.{Shard}
-use Rattle.shard_book.specs.Answering.{is_store_fault, told_after, AnswersClaimed, AnswersOrder}
+use Rattle.shard_book.specs.Answering.{is_store_fault, reported_after, AnswersClaimed, AnswersOrder}
 use Rattle.shard_book.specs.Calls.{KeepsCall, LeavesImages}
 use Rattle.shard_book.specs.Grounds.{IsCardOfShard, IsImageOf, grounds_of, grounds_now}
-use Rattle.shard_book.specs.Shards.{disk_in, faults_in, told_in, StandsFor}
+use Rattle.shard_book.specs.Shards.{disk_in, faults_in, reported_in, StandsFor}
 use Rattle.shard_book.proofs.LegalDecisions.{legal-own}
 use Rattle.shard_book.proofs.Lines.{legal-more}
 use Rattle.shard_book.proofs.OwnDecisions.{legal-then}
@@ -57,23 +57,23 @@ pub record IsAnsweredBy (issuer : Setup) (shard : ℕ) (before after : List Entr
   pub records : RecordsBy issuer shard before entry after
   pub apart : (given : Entry) → entry ≡ Some given → is_store_fault answer ≡ false
   pub adds : (items : List LogItem) (told count : ℕ) → records_of items ≡ before → told ≡ length (faults_of items)
-      → IsAdded issuer shard items answer (added_by entry (is_store_fault answer && ltb told MAX_FAULTS_TOLD) count)
+      → IsAdded issuer shard items answer (added_by entry (is_store_fault answer && ltb told MAX_FAULTS_REPORTED) count)
 
 -- a fault is added while the log tells fewer than the limit
 fault-adds : (items : List LogItem) (told count : ℕ) → told ≡ length (faults_of items)
-    → AddsFault items (added_by None (true && ltb told MAX_FAULTS_TOLD) count)
+    → AddsFault items (added_by None (true && ltb told MAX_FAULTS_REPORTED) count)
 fault-adds items told count told_is =
-    let goes : (test : Bool) → ltb told MAX_FAULTS_TOLD ≡ test → AddsFault items (added_by None (true && test) count) = λ test is.
-    elim test as (λ test. ltb told MAX_FAULTS_TOLD ≡ test → AddsFault items (added_by None (true && test) count)) [
-      | true ↦ λ less. subst (λ told. told < MAX_FAULTS_TOLD) told_is (ltb-true told MAX_FAULTS_TOLD less)
-      | false ↦ λ more. subst (λ told. MAX_FAULTS_TOLD ≤ told) told_is (ltb-false told MAX_FAULTS_TOLD more)
+    let goes : (test : Bool) → ltb told MAX_FAULTS_REPORTED ≡ test → AddsFault items (added_by None (true && test) count) = λ test is.
+    elim test as (λ test. ltb told MAX_FAULTS_REPORTED ≡ test → AddsFault items (added_by None (true && test) count)) [
+      | true ↦ λ less. subst (λ told. told < MAX_FAULTS_REPORTED) told_is (ltb-true told MAX_FAULTS_REPORTED less)
+      | false ↦ λ more. subst (λ told. MAX_FAULTS_REPORTED ≤ told) told_is (ltb-false told MAX_FAULTS_REPORTED more)
     ] is in
-    goes (ltb told MAX_FAULTS_TOLD) refl
+    goes (ltb told MAX_FAULTS_REPORTED) refl
 
 module _ (issuer : Setup) (shard : ℕ) (before after : List Entry) where
   nothing-added : (answer : Answer) → is_store_fault answer ≡ false → after ≡ before
       → ((items : List LogItem) (told count : ℕ) → told ≡ length (faults_of items)
-      → IsAdded issuer shard items answer (added_by None (is_store_fault answer && ltb told MAX_FAULTS_TOLD) count))
+      → IsAdded issuer shard items answer (added_by None (is_store_fault answer && ltb told MAX_FAULTS_REPORTED) count))
       → IsAnsweredBy issuer shard before after answer None
   nothing-added answer good same adds = record {
     records = same;
@@ -180,7 +180,7 @@ own-more issuer shard first history entry own next place other past is =
 
 -- below the limit of counts that are told, the count now is the last of these
 abbrev IsLast : ℕ → ℕ → List ℕ → Type 0
-IsLast first now counts = length counts < MAX_FAULTS_TOLD → now ≡ last_count first counts
+IsLast first now counts = length counts < MAX_FAULTS_REPORTED → now ≡ last_count first counts
 
 -- a call of the shard answered so
 pub record IsCalled {S : Type 0} {G : Ghosts S} (issuer : Setup) (old new : Shard S G) (answer : Answer) : Type 0 where
@@ -212,7 +212,7 @@ module _ {S : Type 0} {G : Ghosts S} (issuer : Setup) (shard first faults : ℕ)
       let long = length_push history entry in
       let counts : CountsFaults (faults_in old) (faults_in new) false =
       subst (λ failed. CountsFaults (faults_in old) (faults_in new) failed) good called.keeps.counts in
-      let told : told_in new ≡ told_in old = called.keeps.told_is ∙ ap (told_after (told_in old)) good in
+      let told : reported_in new ≡ reported_in old = called.keeps.told_is ∙ ap (reported_after (reported_in old)) good in
       let faults_same = faults-record items entry in
       record {
         number_is = called.keeps.number_is ∙ stands.number_is;
@@ -223,7 +223,7 @@ module _ {S : Type 0} {G : Ghosts S} (issuer : Setup) (shard first faults : ℕ)
         opened = subst (λ (history : List Entry). first ≤ length history) (sym same) (omega arith);
         by_table = subst (AreOwnFrom issuer shard first) (sym same) (own-more issuer shard first history entry stands.by_table next);
         told_is = told ∙ stands.told_is ∙ sym (ap (λ (counts : List ℕ). length counts) faults_same);
-        few = subst (λ (counts : List ℕ). length counts ≤ MAX_FAULTS_TOLD) (sym faults_same) stands.few;
+        few = subst (λ (counts : List ℕ). length counts ≤ MAX_FAULTS_REPORTED) (sym faults_same) stands.few;
         undoubted = called.keeps.undoubted stands.undoubted;
         counts = subst (λ (counts : List ℕ). RiseTo faults counts (faults_in new)) (sym faults_same)
             (rise-later faults (faults_of items) (faults_in old) (faults_in new) stands.counts counts.never_falls);
@@ -232,8 +232,8 @@ module _ {S : Type 0} {G : Ghosts S} (issuer : Setup) (shard first faults : ℕ)
       }
 
   -- no record was added
-  other-step : (more : List LogItem) → records_of more ≡ records_of items → after ≡ records_of items → told_in new ≡ length (faults_of more)
-      → length (faults_of more) ≤ MAX_FAULTS_TOLD → RiseTo faults (faults_of more) (faults_in new) → IsLast faults (faults_in new) (faults_of more)
+  other-step : (more : List LogItem) → records_of more ≡ records_of items → after ≡ records_of items → reported_in new ≡ length (faults_of more)
+      → length (faults_of more) ≤ MAX_FAULTS_REPORTED → RiseTo faults (faults_of more) (faults_in new) → IsLast faults (faults_in new) (faults_of more)
       → StandsForLog new (head_with issuer shard faults first disk) more
   other-step more same after_is told few counts last_is = record {
     number_is = called.keeps.number_is ∙ stands.number_is;
@@ -250,33 +250,33 @@ module _ {S : Type 0} {G : Ghosts S} (issuer : Setup) (shard first faults : ℕ)
     since = since-then (records_of more) (subst (GoesOn (records_of items)) (sym same) (goes-none (records_of items)));
   }
 
-  none-step : (failed less : Bool) → is_store_fault answer ≡ failed → ltb (told_in old) MAX_FAULTS_TOLD ≡ less → after ≡ records_of items
+  none-step : (failed less : Bool) → is_store_fault answer ≡ failed → ltb (reported_in old) MAX_FAULTS_REPORTED ≡ less → after ≡ records_of items
       → StandsForLog new (head_with issuer shard faults first disk) (log_after items (added_by None (failed && less) (faults_in new)))
   none-step false less failed_is less_is after_is =
       let counts : CountsFaults (faults_in old) (faults_in new) false =
       subst (λ failed. CountsFaults (faults_in old) (faults_in new) failed) failed_is called.keeps.counts in
-      other-step items refl after_is (called.keeps.told_is ∙ ap (told_after (told_in old)) failed_is ∙ stands.told_is) stands.few
+      other-step items refl after_is (called.keeps.told_is ∙ ap (reported_after (reported_in old)) failed_is ∙ stands.told_is) stands.few
       (rise-later faults (faults_of items) (faults_in old) (faults_in new) stands.counts counts.never_falls)
       (λ fewer. counts.counted ∙ stands.last_is fewer)
   none-step true false failed_is less_is after_is =
       let counts = called.keeps.counts.never_falls in
-      let told : told_in new ≡ told_in old = called.keeps.told_is ∙ ap (told_after (told_in old)) failed_is
-      ∙ ap (λ (less : Bool). if less then told_in old + 1 else told_in old) less_is in
+      let told : reported_in new ≡ reported_in old = called.keeps.told_is ∙ ap (reported_after (reported_in old)) failed_is
+      ∙ ap (λ (less : Bool). if less then reported_in old + 1 else reported_in old) less_is in
       other-step items refl after_is (told ∙ stands.told_is) stands.few
       (rise-later faults (faults_of items) (faults_in old) (faults_in new) stands.counts counts)
-      (λ fewer. let most = ltb-false (told_in old) MAX_FAULTS_TOLD less_is in let told_was = stands.told_is in absurd (omega arith))
+      (λ fewer. let most = ltb-false (reported_in old) MAX_FAULTS_REPORTED less_is in let told_was = stands.told_is in absurd (omega arith))
   none-step true true failed_is less_is after_is =
       let counts : CountsFaults (faults_in old) (faults_in new) true =
       subst (λ failed. CountsFaults (faults_in old) (faults_in new) failed) failed_is called.keeps.counts in
-      let told : told_in new ≡ told_in old + 1 = called.keeps.told_is ∙ ap (told_after (told_in old)) failed_is
-      ∙ ap (λ (less : Bool). if less then told_in old + 1 else told_in old) less_is in
+      let told : reported_in new ≡ reported_in old + 1 = called.keeps.told_is ∙ ap (reported_after (reported_in old)) failed_is
+      ∙ ap (λ (less : Bool). if less then reported_in old + 1 else reported_in old) less_is in
       let more = faults-fault items (faults_in new) in
       let long = length_push (faults_of items) (faults_in new) in
-      let below = ltb-true (told_in old) MAX_FAULTS_TOLD less_is in
+      let below = ltb-true (reported_in old) MAX_FAULTS_REPORTED less_is in
       let told_was = stands.told_is in
       other-step (items ++ Fault (faults_in new) ∷ []) (records-fault items (faults_in new)) after_is
-      (subst (λ (counts : List ℕ). told_in new ≡ length counts) (sym more) (omega (arith, told, told_was, long)))
-      (subst (λ (counts : List ℕ). length counts ≤ MAX_FAULTS_TOLD) (sym more) (omega (arith, below, told_was, long)))
+      (subst (λ (counts : List ℕ). reported_in new ≡ length counts) (sym more) (omega (arith, told, told_was, long)))
+      (subst (λ (counts : List ℕ). length counts ≤ MAX_FAULTS_REPORTED) (sym more) (omega (arith, below, told_was, long)))
       (subst (λ (counts : List ℕ). RiseTo faults counts (faults_in new)) (sym more)
       (rise-more faults (faults_of items) (faults_in old) (faults_in new) stands.counts counts.never_falls counts.counted))
       (subst (IsLast faults (faults_in new)) (sym more) (λ fewer. sym (last-more faults (faults_of items) (faults_in new))))
@@ -284,8 +284,8 @@ module _ {S : Type 0} {G : Ghosts S} (issuer : Setup) (shard first faults : ℕ)
   -- so the shard stands for the log with what the answer adds
   pub log-step : (entry : Option Entry) → IsAnsweredBy issuer shard (records_of items) after answer entry
       → StandsForLog new (head_with issuer shard faults first disk)
-      (log_after items (added_by entry (is_store_fault answer && ltb (told_in old) MAX_FAULTS_TOLD) (faults_in new)))
-  log-step None answered = none-step (is_store_fault answer) (ltb (told_in old) MAX_FAULTS_TOLD) refl refl answered.records
+      (log_after items (added_by entry (is_store_fault answer && ltb (reported_in old) MAX_FAULTS_REPORTED) (faults_in new)))
+  log-step None answered = none-step (is_store_fault answer) (ltb (reported_in old) MAX_FAULTS_REPORTED) refl refl answered.records
   log-step (Some entry) answered = record-step entry (answered.apart entry refl) answered.records.0 answered.records.1
 
   -- and its records are those after the answer

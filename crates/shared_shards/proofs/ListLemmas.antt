@@ -6,7 +6,7 @@ use Rattle.std.proofs.lemmas.List.{length-map, length_push, reverse-append}
 use Rattle.std.proofs.lemmas.Option.{same_Some, none-some, slice_get_within}
 use Rattle.issuer_base.specs.Stores.{BothTold, LeavesOnly}
 use Rattle.issuer_base.specs.declared.entry.Entry.{Entry}
-use Rattle.issuer_base.specs.declared.limits.TheConstants.{MAX_FAULTS_TOLD}
+use Rattle.issuer_base.specs.declared.limits.TheConstants.{MAX_FAULTS_REPORTED}
 use Rattle.issuer_base.specs.declared.outside.store.Store.{Ghosts}
 use Rattle.card_history.specs.LegalRecords.{IsLegalHistory}
 use Rattle.issuer_setup.specs.IssuerSetup.{Setup}
@@ -16,7 +16,7 @@ use Rattle.shard_book.specs.Shards.{number_in, disk_in, faults_in, HoldsHistory,
 use Rattle.shard_book.proofs.ShardSteps.{crash-no_call}
 use Rattle.turn_book.specs.declared.logs.Log.{Log}
 use Rattle.turn_book.specs.Logs.{heads_of, StandFor}
-use Rattle.shared_shards.specs.declared.held.HeldShard.{HeldShard}
+use Rattle.shared_shards.specs.declared.locked_shard.LockedShard.{LockedShard}
 use Rattle.shared_shards.specs.declared.logs.LogHead.{LogHead}
 use Rattle.shared_shards.specs.declared.logs.LogItem.{LogItem}
 use Rattle.shared_shards.specs.declared.logs.LogItem.TheVariants.{Record}
@@ -85,11 +85,11 @@ module _ {S : Type 0} {G : Ghosts S} where
             let within = slice_get_within history place entry (subst (λ (records : List Entry). slice_get records place ≡ Some entry) same is) in
             absurd (omega arith);
         told_is = untold ∙ sym (ap (λ (counts : List ℕ). length counts) none);
-        few = subst (λ (counts : List ℕ). length counts ≤ MAX_FAULTS_TOLD) (sym none) (omega arith);
+        few = subst (λ (counts : List ℕ). length counts ≤ MAX_FAULTS_REPORTED) (sym none) (omega arith);
         undoubted = just.from.undoubted;
         counts = subst (λ (counts : List ℕ). RiseTo (faults_in shard) counts (faults_in shard)) (sym none)
             (let least : faults_in shard ≤ faults_in shard = omega arith in least);
-        last_is = subst (λ (counts : List ℕ). length counts < MAX_FAULTS_TOLD → faults_in shard ≡ last_count (faults_in shard) counts) (sym none)
+        last_is = subst (λ (counts : List ℕ). length counts < MAX_FAULTS_REPORTED → faults_in shard ≡ last_count (faults_in shard) counts) (sym none)
             (λ fewer. refl);
         since = subst (λ (records : List Entry). BothTold (LeavesOnly (IsImageBetween issuer number (take (length history) records) records))
             (disk_in shard) (disk_in shard)) (sym same)
@@ -106,10 +106,10 @@ module _ {S : Type 0} {G : Ghosts S} where
       (opening-stands_for issuer olds stores number shard just opening.just.from.loaded.history opening.just.from.loaded.journal_is.since.legal opening.just.from.loaded.stands opening.just.from.loaded.number_is)
 
   -- values that stand for logs one by one stand for them all
-  pub stand-for : (held : List (HeldShard S G)) (logs : List (Log LogItem LogHead)) → length held ≡ length logs
-      → ((number : ℕ) (shard : Shard S G) (log : Log LogItem LogHead) → slice_get (map (λ (held : HeldShard S G). held.shard) held) number ≡ Some shard
+  pub stand-for : (held : List (LockedShard S G)) (logs : List (Log LogItem LogHead)) → length held ≡ length logs
+      → ((number : ℕ) (shard : Shard S G) (log : Log LogItem LogHead) → slice_get (map (λ (held : LockedShard S G). held.shard) held) number ≡ Some shard
       → slice_get logs number ≡ Some log → StandsForLog shard log.head log.items)
-      → StandFor (λ (held : HeldShard S G) head items. StandsForLog held.shard head items) held logs
+      → StandFor (λ (held : LockedShard S G) head items. StandsForLog held.shard head items) held logs
   stand-for [] [] long each = tt
   stand-for [] (log ∷ logs) long each = absurd (omega arith)
   stand-for (first ∷ held) [] long each = absurd (omega arith)
@@ -117,11 +117,11 @@ module _ {S : Type 0} {G : Ghosts S} where
       (each 0 first.shard log refl refl, stand-for held logs (omega arith) (λ number. each (suc number)))
 
   -- so do those of shards that were just loaded
-  pub held-stand : (issuer : Setup) (olds stores : List S) (shards : List (Shard S G)) (logs : List (Log LogItem LogHead)) (held : List (HeldShard S G))
-      → AreJustLoaded issuer olds stores shards → AreOpeningLogs issuer olds stores shards logs → map (λ (held : HeldShard S G). held.shard) held ≡ shards
-      → StandFor (λ (held : HeldShard S G) head items. StandsForLog held.shard head items) held logs
+  pub held-stand : (issuer : Setup) (olds stores : List S) (shards : List (Shard S G)) (logs : List (Log LogItem LogHead)) (held : List (LockedShard S G))
+      → AreJustLoaded issuer olds stores shards → AreOpeningLogs issuer olds stores shards logs → map (λ (held : LockedShard S G). held.shard) held ≡ shards
+      → StandFor (λ (held : LockedShard S G) head items. StandsForLog held.shard head items) held logs
   held-stand issuer olds stores shards logs held just opening are =
-      let long = length-map held (λ (held : HeldShard S G). held.shard) in
+      let long = length-map held (λ (held : LockedShard S G). held.shard) in
       let same = ap (λ (shards : List (Shard S G)). length shards) are in
       let count = opening.count_is in
       stand-for held logs (omega (arith, long, same, count)) (λ number shard log there is.
@@ -129,9 +129,9 @@ module _ {S : Type 0} {G : Ghosts S} where
       opening-stands issuer olds stores number shard log (just.each number shard its) (opening.each number shard log its is))
 
   -- and values that stand for logs stand for each
-  pub stand-each : (held : List (HeldShard S G)) (logs : List (Log LogItem LogHead))
-      → StandFor (λ (held : HeldShard S G) head items. StandsForLog held.shard head items) held logs
-      → StandForLogs (map (λ (held : HeldShard S G). held.shard) held) logs
+  pub stand-each : (held : List (LockedShard S G)) (logs : List (Log LogItem LogHead))
+      → StandFor (λ (held : LockedShard S G) head items. StandsForLog held.shard head items) held logs
+      → StandForLogs (map (λ (held : LockedShard S G). held.shard) held) logs
   stand-each [] [] all = record { count_is = refl; each = λ number shard log there. absurd (none-some shard there) }
   stand-each [] (log ∷ logs) all = absurd all
   stand-each (first ∷ held) [] all = absurd all
@@ -142,7 +142,7 @@ module _ {S : Type 0} {G : Ghosts S} where
         count_is = omega (arith, count);
         each = λ number.
             elim number as (λ number. (shard : Shard S G) (other : Log LogItem LogHead)
-            → slice_get (first.shard ∷ map (λ (held : HeldShard S G). held.shard) held) number ≡ Some shard → slice_get (log ∷ logs) number ≡ Some other
+            → slice_get (first.shard ∷ map (λ (held : LockedShard S G). held.shard) held) number ≡ Some shard → slice_get (log ∷ logs) number ≡ Some other
             → StandsForLog shard other.head other.items) [
               | zero ↦ λ shard other there is.
                   subst (λ (other : Log LogItem LogHead). StandsForLog shard other.head other.items) (same_Some log other is)
@@ -168,24 +168,24 @@ module _ {S : Type 0} {G : Ghosts S} where
   }
 
   -- one shard more is held
-  pub held-next : (shards : List (Shard S G)) (held : List (HeldShard S G)) (next : HeldShard S G) (left : List (Shard S G))
-      → map (λ (held : HeldShard S G). held.shard) held ++ next.shard ∷ left ≡ shards
-      → map (λ (held : HeldShard S G). held.shard) (held ++ next ∷ []) ++ left ≡ shards
+  pub held-next : (shards : List (Shard S G)) (held : List (LockedShard S G)) (next : LockedShard S G) (left : List (Shard S G))
+      → map (λ (held : LockedShard S G). held.shard) held ++ next.shard ∷ left ≡ shards
+      → map (λ (held : LockedShard S G). held.shard) (held ++ next ∷ []) ++ left ≡ shards
   held-next shards held next left all =
-      ap (λ (front : List (Shard S G)). front ++ left) (map-push (λ (held : HeldShard S G). held.shard) held next)
-      ∙ append_assoc (map (λ (held : HeldShard S G). held.shard) held) (next.shard ∷ []) left ∙ all
+      ap (λ (front : List (Shard S G)). front ++ left) (map-push (λ (held : LockedShard S G). held.shard) held next)
+      ∙ append_assoc (map (λ (held : LockedShard S G). held.shard) held) (next.shard ∷ []) left ∙ all
 
   pub counts-next : (issuer : Setup) (olds stores : List S) (shards : List (Shard S G)) (logs : List (Log LogItem LogHead))
       → AreOpeningLogs issuer olds stores shards logs
-      → (held : List (HeldShard S G)) (next : HeldShard S G) (left : List (Shard S G)) (counts : List ℕ) (places : ℕ)
-      → map (λ (held : HeldShard S G). held.shard) held ++ next.shard ∷ left ≡ shards
+      → (held : List (LockedShard S G)) (next : LockedShard S G) (left : List (Shard S G)) (counts : List ℕ) (places : ℕ)
+      → map (λ (held : LockedShard S G). held.shard) held ++ next.shard ∷ left ≡ shards
       → counts ≡ map (λ (log : Log LogItem LogHead). length log.items) (take (length held) logs)
       → ((issuer : Setup) (history : List Entry) → StandsFor issuer next.shard history → places ≡ length history)
       → counts ++ places ∷ [] ≡ map (λ (log : Log LogItem LogHead). length log.items) (take (length (held ++ next ∷ [])) logs)
   counts-next issuer olds stores shards logs opening held next left counts places all counts_are counted =
       let size : Log LogItem LogHead → ℕ = λ (log : Log LogItem LogHead). length log.items in
-      let front : List (Shard S G) = map (λ (held : HeldShard S G). held.shard) held in
-      let long : length front ≡ length held = length-map held (λ (held : HeldShard S G). held.shard) in
+      let front : List (Shard S G) = map (λ (held : LockedShard S G). held.shard) held in
+      let long : length front ≡ length held = length-map held (λ (held : LockedShard S G). held.shard) in
       let there : slice_get shards (length held) ≡ Some next.shard =
       subst (λ (shards : List (Shard S G)). slice_get shards (length held) ≡ Some next.shard) all
       (subst (λ place. slice_get (front ++ next.shard ∷ left) place ≡ Some next.shard) long (read-next front next.shard left)) in

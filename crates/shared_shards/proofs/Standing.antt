@@ -5,7 +5,7 @@ use Rattle.std.proofs.lemmas.Option.{same_Some}
 use Rattle.issuer_base.specs.declared.outside.store.Store.{Ghosts}
 use Rattle.turn_book.specs.declared.logs.Log.{Log}
 use Rattle.turn_book.specs.Logs.{heads_of, items_at, with_items, StandsAt}
-use Rattle.shared_shards.specs.declared.held.HeldShard.{HeldShard}
+use Rattle.shared_shards.specs.declared.locked_shard.LockedShard.{LockedShard}
 use Rattle.shared_shards.specs.declared.logs.LogHead.{LogHead}
 use Rattle.shared_shards.specs.declared.logs.LogItem.{LogItem}
 use Rattle.shared_shards.specs.ShardLogs.{StandsForLog}
@@ -41,14 +41,14 @@ module _ {I B : Type 0} where
   with-with (log ∷ logs) (suc shard) first second = λ i. log ∷ with-with logs shard first second i
 
 module _ {S : Type 0} {G : Ghosts S} where
-  pub held-stands : (held : HeldShard S G) (logs : List (Log LogItem LogHead)) (shard : ℕ)
-      → StandsAt (λ (held : HeldShard S G) head items. StandsForLog held.shard head items) held logs shard → StandsIn held.shard logs shard
+  pub held-stands : (held : LockedShard S G) (logs : List (Log LogItem LogHead)) (shard : ℕ)
+      → StandsAt (λ (held : LockedShard S G) head items. StandsForLog held.shard head items) held logs shard → StandsIn held.shard logs shard
   held-stands held [] shard here = here
   held-stands held (log ∷ logs) zero here = here
   held-stands held (log ∷ logs) (suc shard) here = held-stands held logs shard here
 
-  pub stands-held : (held : HeldShard S G) (logs : List (Log LogItem LogHead)) (shard : ℕ) → StandsIn held.shard logs shard
-      → StandsAt (λ (held : HeldShard S G) head items. StandsForLog held.shard head items) held logs shard
+  pub stands-held : (held : LockedShard S G) (logs : List (Log LogItem LogHead)) (shard : ℕ) → StandsIn held.shard logs shard
+      → StandsAt (λ (held : LockedShard S G) head items. StandsForLog held.shard head items) held logs shard
   stands-held held [] shard here = here
   stands-held held (log ∷ logs) zero here = here
   stands-held held (log ∷ logs) (suc shard) here = stands-held held logs shard here

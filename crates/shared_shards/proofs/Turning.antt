@@ -5,22 +5,22 @@ use Rattle.std.proofs.lemmas.Option.{same_Some, slice_get_within}
 use Rattle.issuer_base.specs.Stores.{Disk}
 use Rattle.issuer_base.specs.declared.answer.Answer.{Answer}
 use Rattle.issuer_base.specs.declared.entry.Entry.{Entry}
-use Rattle.issuer_base.specs.declared.limits.TheConstants.{MAX_FAULTS_TOLD}
+use Rattle.issuer_base.specs.declared.limits.TheConstants.{MAX_FAULTS_REPORTED}
 use Rattle.issuer_base.specs.declared.outside.store.Store.{Ghosts}
 use Rattle.card_history.specs.declared.card_view.CardView.{CardView}
 use Rattle.card_history.specs.CardViews.{card_shown}
-use Rattle.card_history.specs.Records.{CardName}
+use Rattle.issuer_base.specs.CardNames.{CardName}
 use Rattle.issuer_setup.specs.declared.card.CardInfo.{CardInfo}
 use Rattle.issuer_setup.specs.CardList.{name_of}
 use Rattle.issuer_setup.specs.IssuerSetup.{Setup}
 use Rattle.issuer_setup.proofs.CardListLemmas.{number_of-found}
 use Rattle.line_checks.specs.AtHand.{IsCardAtHand}
-use Rattle.row_core.specs.CardRow.{CardRow, StandsFor as RowStandsFor}
+use Rattle.shard_book.specs.CardRow.{CardRow, StandsFor as RowStandsFor}
 use Rattle.shard_book.specs.declared.shard.Shard.{Shard}
 use Rattle.shard_book.specs.Answering.{is_store_fault}
 use Rattle.shard_book.specs.Calls.{AnswersBy}
 use Rattle.shard_book.specs.Grounds.{IsCardOfShard}
-use Rattle.shard_book.specs.Shards.{number_in, HasCard, faults_in, told_in, StandsFor}
+use Rattle.shard_book.specs.Shards.{number_in, HasCard, faults_in, reported_in, StandsFor}
 use Rattle.turn_book.specs.declared.logs.Log.{Log}
 use Rattle.turn_book.specs.declared.view.TurnView.{TurnView}
 use Rattle.turn_book.specs.declared.seat.TurnSeat.{TurnSeat}
@@ -28,7 +28,7 @@ use Rattle.turn_book.specs.Seats.{view_of}
 use Rattle.turn_book.specs.Logs.{heads_of, items_at, with_items, IsFront, StandsAt}
 use Rattle.turn_book.specs.TurnViews.{entered, free}
 use Rattle.turn_book.proofs.LogLemmas.{heads-length, stands_below}
-use Rattle.shared_shards.specs.declared.held.HeldShard.{HeldShard}
+use Rattle.shared_shards.specs.declared.locked_shard.LockedShard.{LockedShard}
 use Rattle.shared_shards.specs.declared.logs.LogHead.{LogHead}
 use Rattle.shared_shards.specs.declared.logs.LogItem.{LogItem}
 use Rattle.shared_shards.specs.declared.turns.ShardTurns.{ShardTurns}
@@ -62,9 +62,9 @@ module _ {S : Type 0} {G : Ghosts S} where
 
   -- so it is when a turn comes
   pub has-found : (issuer : Setup) (turns : ShardTurns S G) → AreTurnsOf issuer turns
-      → (logs : List (Log LogItem LogHead)) (number : ℕ) (held : HeldShard S G)
+      → (logs : List (Log LogItem LogHead)) (number : ℕ) (held : LockedShard S G)
       → heads_of logs ≡ heads_of (opening_in turns)
-      → StandsAt (λ (held : HeldShard S G) head items. StandsForLog held.shard head items) held logs number → HasFound issuer logs number held.shard
+      → StandsAt (λ (held : LockedShard S G) head items. StandsForLog held.shard head items) held logs number → HasFound issuer logs number held.shard
   has-found issuer turns are logs number held heads here =
       let Stands : Shard S G → LogHead → List LogItem → Type 0 = λ shard head items. StandsForLog shard head items in
       let inside : StandsIn held.shard logs number = held-stands held logs number here in
@@ -130,7 +130,7 @@ module _ {S : Type 0} {G : Ghosts S} where
     pub called : IsCalled issuer old new answer
     pub answers : AnswersBy issuer old Changes new
     pub recording : (history after : List Entry) → Changes number history after → IsAnsweredBy issuer number history after answer entry
-    pub told_is : told ≡ told_in old
+    pub told_is : told ≡ reported_in old
 
   module _ {issuer : Setup} {Changes : ℕ → List Entry → List Entry → Type 0} {logs : List (Log LogItem LogHead)} {number : ℕ} {old new : Shard S G}
       {answer : Answer} {entry : Option Entry} {told : ℕ}
@@ -140,7 +140,7 @@ module _ {S : Type 0} {G : Ghosts S} where
 
     -- what is added, where the shard's answers had reported so many faults before
     abbrev adding : ℕ → Option LogItem
-    adding before = added_by entry (is_store_fault answer && ltb before MAX_FAULTS_TOLD) (faults_in new)
+    adding before = added_by entry (is_store_fault answer && ltb before MAX_FAULTS_REPORTED) (faults_in new)
 
     abbrev said : (after : List Entry) × StandsFor issuer new after × Changes (number_in old) (records_of items) after
     said = call.answers (records_of items) call.found.stands.stands
@@ -156,7 +156,7 @@ module _ {S : Type 0} {G : Ghosts S} where
     turn-stands =
         subst (λ (told : ℕ). StandsIn new (with_items logs number (log_after items (adding told))) number) (sym call.told_is)
         (stands-close (λ (shard : Shard S G) head items. StandsForLog shard head items) new logs number
-        (head_with issuer number call.found.faults call.found.first call.found.disk) (log_after items (adding (told_in old))) call.found.head_is
+        (head_with issuer number call.found.faults call.found.first call.found.disk) (log_after items (adding (reported_in old))) call.found.head_is
         (log-step issuer number call.found.first call.found.faults call.found.disk old new answer items
         call.found.stands call.called said.0 said.1 entry
         answered))
@@ -174,7 +174,7 @@ module _ {S : Type 0} {G : Ghosts S} where
           changes = subst (Changes number (records_of items))
               (sym (records-after issuer number call.found.first call.found.faults call.found.disk old new answer items
               call.found.stands call.called said.0 said.1 entry
-              (is_store_fault answer && ltb told MAX_FAULTS_TOLD) (faults_in new) answered)) changed;
+              (is_store_fault answer && ltb told MAX_FAULTS_REPORTED) (faults_in new) answered)) changed;
           adds = answered.adds items told (faults_in new) refl (call.told_is ∙ call.found.stands.told_is);
           after_is = after_is
               ∙ ap (λ (inside : TurnView LogItem LogHead). free (counted_if number added inside)) inside_is

@@ -3,12 +3,12 @@ use Rattle.std.specs.Prelude.{◌≡◌, ℕ, ◌<◌, ◌≤◌, List, [], ◌�
 use Rattle.issuer_base.specs.OutsideFaults.{Rose}
 use Rattle.issuer_base.specs.Stores.{BothTold, LeavesOnly}
 use Rattle.issuer_base.specs.declared.entry.Entry.{Entry}
-use Rattle.issuer_base.specs.declared.limits.TheConstants.{MAX_FAULTS_TOLD}
+use Rattle.issuer_base.specs.declared.limits.TheConstants.{MAX_FAULTS_REPORTED}
 use Rattle.issuer_base.specs.declared.outside.store.Store.{Ghosts}
 use Rattle.card_history.specs.LegalRecords.{IsLegal, IsLegalHistory}
 use Rattle.shard_book.specs.declared.shard.Shard.{Shard}
 use Rattle.shard_book.specs.Grounds.{grounds_now, grounds_of}
-use Rattle.shard_book.specs.Shards.{number_in, IsUnder, disk_in, faults_in, told_in, IsUndoubted, StandsFor}
+use Rattle.shard_book.specs.Shards.{number_in, IsUnder, disk_in, faults_in, reported_in, IsUndoubted, StandsFor}
 use Rattle.shared_shards.specs.declared.logs.LogHead.{LogHead}
 use Rattle.shared_shards.specs.declared.logs.LogItem.{LogItem}
 use Rattle.shared_shards.specs.declared.logs.LogItem.TheVariants.{Record, Fault}
@@ -52,12 +52,12 @@ pub record StandsForLog {S : Type 0} {G : Ghosts S} (shard : Shard S G) (head : 
   pub by_table : (place : ℕ) (entry : Entry) → head.records ≤ place → slice_get (records_of items) place ≡ Some entry
       → IsLegal (grounds_now head.issuer) head.shard (take place (records_of items)) entry
   -- the log has each answer that reported that the store failed, up to a limit
-  pub told_is : told_in shard ≡ length (faults_of items)
-  pub few : length (faults_of items) ≤ MAX_FAULTS_TOLD
+  pub told_is : reported_in shard ≡ length (faults_of items)
+  pub few : length (faults_of items) ≤ MAX_FAULTS_REPORTED
   pub undoubted : IsUndoubted shard
   pub counts : RiseTo head.faults (faults_of items) (faults_in shard)
   -- below the limit the store's count is the last one in the log, so each such answer has the count after it
-  pub last_is : length (faults_of items) < MAX_FAULTS_TOLD → faults_in shard ≡ last_count head.faults (faults_of items)
+  pub last_is : length (faults_of items) < MAX_FAULTS_REPORTED → faults_in shard ≡ last_count head.faults (faults_of items)
   -- whatever a crash since the log was opened may leave is an image of a history between the opening one and the log's
   pub since : BothTold
       (LeavesOnly (IsImageBetween head.issuer head.shard (opening_records head items) (records_of items))) head.opened

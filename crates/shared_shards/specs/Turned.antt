@@ -7,7 +7,7 @@ use Rattle.issuer_base.specs.declared.answer.Answer.TheVariants.{Fresh, Queued, 
 use Rattle.issuer_base.specs.declared.answer.Refusal.TheVariants.{StoreFault}
 use Rattle.issuer_base.specs.declared.entry.Entry.{Entry}
 use Rattle.issuer_base.specs.declared.entry.Entry.TheVariants.{Decided}
-use Rattle.issuer_base.specs.declared.limits.TheConstants.{MAX_FAULTS_TOLD}
+use Rattle.issuer_base.specs.declared.limits.TheConstants.{MAX_FAULTS_REPORTED}
 use Rattle.card_history.specs.LegalRecords.{IsLegal}
 use Rattle.card_history.specs.Records.{card_of}
 use Rattle.line_checks.specs.declared.checked.CheckedOrder.{CheckedOrder}
@@ -15,7 +15,7 @@ use Rattle.line_checks.specs.AtHand.{card_of_order, order_asked, record_of}
 use Rattle.issuer_setup.specs.declared.card.CardInfo.{CardInfo}
 use Rattle.issuer_setup.specs.CardList.{name_of}
 use Rattle.issuer_setup.specs.IssuerSetup.{Setup, shard_of}
-use Rattle.row_core.specs.Replying.{reply_to}
+use Rattle.shard_book.specs.Replying.{reply_to}
 use Rattle.shard_book.specs.Answering.{is_store_fault, AnswersClaimed, AnswersOrder}
 use Rattle.shard_book.specs.Shards.{faults_in}
 use Rattle.shard_book.specs.Grounds.{grounds_now}
@@ -25,9 +25,9 @@ use Rattle.turn_book.specs.declared.view.TurnView.{TurnView}
 use Rattle.turn_book.specs.Logs.{items_at, with_items, IsFront}
 use Rattle.turn_book.specs.TurnViews.{counted}
 use Rattle.issuer_base.specs.declared.outside.store.Store.{Ghosts}
-use Rattle.shared_shards.specs.declared.held.Call.{Call}
-use Rattle.shared_shards.specs.declared.held.Call.TheVariants.{Decide as CalledToDecide, Order as CalledToOrder}
-use Rattle.shared_shards.specs.declared.held.Called.{Called}
+use Rattle.shared_shards.specs.declared.locked_shard.Call.{Call}
+use Rattle.shared_shards.specs.declared.locked_shard.Call.TheVariants.{Decide as CalledToDecide, Order as CalledToOrder}
+use Rattle.shared_shards.specs.declared.locked_shard.Called.{Called}
 use Rattle.shared_shards.specs.declared.logs.LogHead.{LogHead}
 use Rattle.shared_shards.specs.declared.logs.LogItem.{LogItem}
 use Rattle.shared_shards.specs.declared.logs.LogItem.TheVariants.{Record, Fault}
@@ -59,9 +59,9 @@ AddsRecord issuer shard between added =
 
 -- a fault is appended, while the log has fewer than the limit
 abbrev pub AddsFault : List LogItem → Option LogItem → Type 0
-AddsFault between None = MAX_FAULTS_TOLD ≤ length (faults_of between)
+AddsFault between None = MAX_FAULTS_REPORTED ≤ length (faults_of between)
 AddsFault between (Some (Record entry)) = ⊥
-AddsFault between (Some (Fault count)) = length (faults_of between) < MAX_FAULTS_TOLD
+AddsFault between (Some (Fault count)) = length (faults_of between) < MAX_FAULTS_REPORTED
 
 -- an answer with a new record appends it, one that reports that the store failed appends that, and no other appends
 -- anything
@@ -140,7 +140,7 @@ added_by None false count = None
 abbrev pub added_in : {S : Type 0} {G : Ghosts S} → Called S G → Option LogItem
 added_in called =
     added_by (record_by called.call called.answer.now)
-    (is_store_fault called.answer.now && nat_lt called.told MAX_FAULTS_TOLD)
+    (is_store_fault called.answer.now && nat_lt called.reported MAX_FAULTS_REPORTED)
     (faults_in called.shard)
 
 -- the view with one item more in the shard's log, where there is one

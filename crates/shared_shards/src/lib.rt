@@ -2,12 +2,12 @@
 //! answer that reported that the store failed.
 #![tactic(auto)]
 
-mod held;
 mod lists;
+mod locked_shard;
 mod logs;
 mod opening;
 mod turns;
 
-pub use held::HeldShard;
+pub use locked_shard::LockedShard;
 pub use logs::{LogHead, LogItem, SeenDisk};
 pub use turns::{ShardSeat, ShardTurns};

@@ -4,7 +4,7 @@ ghost use Rattle.issuer_base.specs.declared.limits.TheConstants.{MAX_SHARDS};
 ghost use Rattle.turn_book.specs.Logs.{StandFor};
 ghost use Rattle.shared_shards.specs.Opening.{AreOpeningLogs};
 
-use crate::held::HeldShard;
+use crate::locked_shard::LockedShard;
 use crate::opening::Logs;
 use atomic_table::Mark;
 use issuer_base::{MAX_SHARDS, NoMemory, Store};
@@ -39,7 +39,7 @@ impl<S: Store> Spare<S> {
 
 /// The shards as values of their logs, and how many records each has.
 pub(crate) struct Lists<S: Store> {
-    pub(crate) held: Vec<HeldShard<S>>,
+    pub(crate) held: Vec<LockedShard<S>>,
     pub(crate) counts: Vec<u64>,
     pub(crate) spare: Spare<S>,
 }
@@ -86,18 +86,18 @@ pub(crate) fn hold_all<S: Store>(
     ahead.reverse();
     while let Some(shard) = ahead.pop() {
         lists.counts.push_reserved(shard.places());
-        lists.held.push_reserved(HeldShard { shard });
+        lists.held.push_reserved(LockedShard { shard });
     }
     ahead.destroy_empty();
 }
 
 /// The shards of these values, in order. It doesn't allocate.
-pub(crate) fn release_all<S: Store>(mut held: Vec<HeldShard<S>>, spare: Spare<S>) -> Vec<Shard<S>>
+pub(crate) fn release_all<S: Store>(mut held: Vec<LockedShard<S>>, spare: Spare<S>) -> Vec<Shard<S>>
     requires { vec_len held ≤ MAX_SHARDS }
     ensures { result.items ≡ map (λ held. held.shard) held.items }
 {
     let mut shards = spare.into_list();
-    while let Some(HeldShard { shard }) = held.pop() {
+    while let Some(LockedShard { shard }) = held.pop() {
         shards.push_reserved(shard);
     }
     held.destroy_empty();

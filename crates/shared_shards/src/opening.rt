@@ -11,8 +11,8 @@ ghost use Rattle.shared_shards.specs.ShardLogs.{StandsForLog};
 ghost use Rattle.shared_shards.specs.Opening.{AreJustLoaded, AreOpeningLogs};
 ghost use Rattle.shared_shards.specs.ShardSeats.{opening_in, IsSeatOf};
 
-use crate::held::HeldShard;
 use crate::lists::{Lists, release_all};
+use crate::locked_shard::LockedShard;
 use crate::logs::{LogHead, LogItem};
 use crate::turns::{ShardSeat, ShardTurns};
 use atomic_table::{Mark, PerchPlay, PerchRule, RuledPerch, Table, TableRule};
@@ -128,15 +128,15 @@ pub(crate) fn start<S: Store>(
 /// The turns at these shards, which stand for the logs that the caller picks.
 fn start_with<J: OpeningLogs<LogItem, LogHead>, S: Store>(
     alloc: Global,
-    held: Vec<HeldShard<S>>,
+    held: Vec<LockedShard<S>>,
     counts: &[u64],
     logs: &Mark<Logs>,
 ) -> Result<
     (
-        Turns<HeldShard<S>, LogItem, LogHead>,
+        Turns<LockedShard<S>, LogItem, LogHead>,
         TurnSeat<LogItem, LogHead>,
     ),
-    Vec<HeldShard<S>>,
+    Vec<LockedShard<S>>,
 >
     requires shards { (0 < vec_len held) × (vec_len held ≤ MAX_SHARDS) }
     requires counts { counts.now ≡ map (λ log. length log.items) J.opening }

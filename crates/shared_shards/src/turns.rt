@@ -11,8 +11,8 @@ ghost use Rattle.turn_book.specs.TurnViews.{times, first_view, entered, free, pa
 ghost use Rattle.shared_shards.specs.Opening.{AreJustLoaded, AreOpeningLogs};
 ghost use Rattle.shared_shards.specs.Turned.{DecidesInTurn, OrdersInTurn, ShowsInTurn, added_in, log_after, counted_if};
 
-use crate::held::{Call, Called, HeldShard};
 use crate::lists::{Spare, hold_all, release_all, take_lists};
+use crate::locked_shard::{Call, Called, LockedShard};
 use crate::logs::{LogHead, LogItem};
 use crate::opening::{opening_logs, start};
 use card_history::CardView;
@@ -30,7 +30,7 @@ pub type ShardSeat = TurnSeat<LogItem, LogHead>;
 
 /// The shards of a host, which callers share.
 pub struct ShardTurns<S: Store> {
-    pub(crate) turns: Turns<HeldShard<S>, LogItem, LogHead>,
+    pub(crate) turns: Turns<LockedShard<S>, LogItem, LogHead>,
 
     // Room for the shards that `close` returns, so that `close` doesn't allocate. The lock is never taken.
     pub(crate) spare: Mutex<Spare<S>>,
@@ -86,14 +86,14 @@ impl<S: Store> ShardTurns<S> {
         ensures turn { DecidesInTurn issuer.now won found.now.request (view_of seat.old) result (view_of seat.new) }
     {
         let number = issuer.shard_of(found.card);
-        let HeldShard { mut shard } = self.turns.enter(rt, seat, number);
+        let LockedShard { mut shard } = self.turns.enter(rt, seat, number);
         let told = shard.faults();
         let answer = shard.answer(issuer, found, won);
         let called = Called {
             shard,
             call: Call::Decide(found),
             answer: &answer,
-            told,
+            reported: told,
         };
         self.end_turn(seat, number, called);
         answer
@@ -114,14 +114,14 @@ impl<S: Store> ShardTurns<S> {
         ensures turn { OrdersInTurn issuer.now found.now (view_of seat.old) result (view_of seat.new) }
     {
         let number = issuer.shard_of(found.card());
-        let HeldShard { mut shard } = self.turns.enter(rt, seat, number);
+        let LockedShard { mut shard } = self.turns.enter(rt, seat, number);
         let told = shard.faults();
         let answer = shard.order(issuer, found);
         let called = Called {
             shard,
             call: Call::Order(found),
             answer: &answer,
-            told,
+            reported: told,
         };
         self.end_turn(seat, number, called);
         answer
@@ -207,8 +207,8 @@ impl<S: Store> ShardTurns<S> {
             shard,
             call: _,
             answer: _,
-            told: _,
+            reported: _,
         } = called;
-        self.turns.leave(seat, number, HeldShard { shard });
+        self.turns.leave(seat, number, LockedShard { shard });
     }
 }

@@ -2,7 +2,7 @@
 ghost use Rattle.std.specs.Prelude.{◌≡◌, IfOk, MatchResult};
 ghost use Rattle.shared_seats.specs.SeatNames.{first_names, after_split, split_off};
 ghost use Rattle.host_calls.specs.Passes.{claims_of, IsFree, Holds};
-ghost use Rattle.call_steps.specs.PreChecks.{HasPassed};
+ghost use Rattle.shared_laws.specs.PreChecks.{HasPassed};
 
 use crate::hosts::{empty_stores, is_fresh, is_kept, sample, store};
 use cvr_settle::Flight;

@@ -9,7 +9,7 @@ use Rattle.line_reader.specs.Lines.{BeginsWithLines, IsUnbroken}
 use Rattle.line_reader.proofs.InLine.{IsUnbroken-append}
 use Rattle.line_reader.proofs.LineLaws.{BeginsWithLines-given, BeginsWithLines-line}
 use Rattle.shard_book.specs.declared.shard.Shard.{Shard}
-use Rattle.one_caller.specs.Hosts.{AreShards}
+use Rattle.host_loading.specs.Hosts.{AreShards}
 use Rattle.standby_node.specs.declared.line.FeedFault.{FeedFault}
 use Rattle.standby_node.specs.declared.line.FeedFault.TheVariants.{BadFeed, StoreFault}
 use Rattle.standby_node.specs.declared.standby.Standby.{Standby}

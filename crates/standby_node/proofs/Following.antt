@@ -16,8 +16,7 @@ use Rattle.feed_text.specs.FeedText.{HasHead, headed}
 use Rattle.feed_text.proofs.Heads.{head-apart, length-feed_line}
 use Rattle.shard_book.specs.Grounds.{grounds_of}
 use Rattle.shard_book.specs.Histories.{GoesOn}
-use Rattle.one_caller.proofs.LegalBooks.{recorded-at}
-use Rattle.one_caller.proofs.Places.{read-behind, read-other, read-written}
+use Rattle.host_loading.proofs.Places.{all-at, read-behind, read-other, read-written}
 use Rattle.standby_node.specs.FeedLines.{IsBadLine, IsFor, TakesLine}
 use Rattle.standby_node.specs.Primary.{AreLegal, ArePrefixes, IsPrimary, IsPrimaryLine}
 use Rattle.standby_node.specs.Streams.{TakesLines}
@@ -34,7 +33,7 @@ record IsHeaded (line : List ℕ) (shard place : ℕ) (entry : Entry) : Type 0 w
 
 module _ (primary : List (List Entry)) (is_primary : IsPrimary primary) (line : List ℕ) (its : IsPrimaryLine primary line) where
   record_is : IsRecord its.entry
-  record_is = recorded-at its.history (is_primary.records its.shard its.history its.history_is) its.place its.entry its.entry_is
+  record_is = all-at IsRecord its.history (is_primary.records its.shard its.history its.history_is) its.place its.entry its.entry_is
 
   shard_within : its.shard < length primary
   shard_within = slice_get_within primary its.shard its.history its.history_is

@@ -17,8 +17,8 @@ use Rattle.shard_book.specs.Histories.{GoesOn}
 use Rattle.shard_book.proofs.Histories.{goes-none}
 use Rattle.feed_text.specs.FeedText.{HasHead}
 use Rattle.feed_text.specs.declared.limits.TheConstants.{MOST_FEED_BYTES}
-use Rattle.one_caller.specs.Hosts.{AreShards}
-use Rattle.one_caller.proofs.Places.{read-within, write-same}
+use Rattle.host_loading.specs.Hosts.{AreShards}
+use Rattle.host_loading.proofs.Places.{read-within, write-same}
 use Rattle.standby_node.specs.declared.line.FeedFault.{FeedFault}
 use Rattle.standby_node.specs.declared.line.FeedFault.TheVariants.{BadFeed, StoreFault}
 use Rattle.standby_node.specs.FeedLines.{IsBadLine, IsFor, IsLegalLine, IsNext}

@@ -12,7 +12,7 @@ use Rattle.issuer_base.proofs.Moments.{LeavesOnly-then, LeavesOnly-weaker}
 use Rattle.issuer_base.proofs.ToldTwice.{BothTold-then, BothTold-weaker}
 use Rattle.issuer_setup.specs.IssuerSetup.{Setup}
 use Rattle.shard_book.specs.declared.shard.Shard.{Shard}
-use Rattle.shard_book.specs.Answering.{told_after}
+use Rattle.shard_book.specs.Answering.{reported_after}
 use Rattle.shard_book.specs.Calls.{KeepsCall}
 use Rattle.shard_book.specs.Grounds.{IsImageOf, grounds_of}
 use Rattle.shard_book.specs.Histories.{GoesOn}
@@ -21,8 +21,8 @@ use Rattle.shard_book.specs.Taking.{IsReplicaOf}
 use Rattle.shard_book.proofs.Histories.{goes-none, goes-then}
 use Rattle.shard_book.proofs.Replicas.{stands-replica}
 use Rattle.shard_book.proofs.ShardSteps.{crash-no_call}
-use Rattle.one_caller.specs.Hosts.{AreShards}
-use Rattle.one_caller.proofs.Places.{read-other, read-within, read-written}
+use Rattle.host_loading.specs.Hosts.{AreShards}
+use Rattle.host_loading.proofs.Places.{read-other, read-within, read-written}
 use Rattle.standby_node.specs.declared.line.FeedFault.{FeedFault}
 use Rattle.standby_node.specs.declared.line.FeedFault.TheVariants.{StoreFault}
 use Rattle.standby_node.specs.Standing.{Hold, IsReplicaBetween, KeepsShards, LeavesBetween, fails_at}
@@ -57,7 +57,7 @@ module _ {S : Type 0} {G : Ghosts S} (issuer : Setup) where
   keeps-then : (a b c : Shard S G) (failed : Bool) → KeepsCall issuer a false b → KeepsCall issuer b failed c → KeepsCall issuer a failed c
   keeps-then a b c failed first second = record {
     counts = CountsFaults-then _ _ _ false failed first.counts second.counts;
-    told_is = second.told_is ∙ ap (λ (told : ℕ). told_after told failed) first.told_is;
+    told_is = second.told_is ∙ ap (λ (told : ℕ). reported_after told failed) first.told_is;
     undoubted = λ undoubted. second.undoubted (first.undoubted undoubted);
     under = second.under;
     number_is = second.number_is ∙ first.number_is;

@@ -12,7 +12,7 @@ use Rattle.shard_book.specs.Grounds.{grounds_of, IsImageOf}
 use Rattle.shard_book.specs.Histories.{GoesOn}
 use Rattle.shard_book.specs.Shards.{disk_in, IsSettled}
 use Rattle.shard_book.specs.Taking.{IsReplicaOf}
-use Rattle.one_caller.specs.Hosts.{AreShards}
+use Rattle.host_loading.specs.Hosts.{AreShards}
 use Rattle.standby_node.specs.declared.line.FeedFault.{FeedFault}
 use Rattle.standby_node.specs.declared.line.FeedFault.TheVariants.{BadFeed, StoreFault}
 use Rattle.standby_node.specs.declared.standby.Standby.{Standby}

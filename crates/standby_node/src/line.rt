@@ -1,7 +1,7 @@
 //! One whole line of a feed, taken into the shards of a node.
 ghost use Rattle.std.specs.Prelude.{◌≡◌, ℕ, ◌<◌, Bool, List, length};
 ghost use Rattle.issuer_base.specs.declared.entry.Entry.{Entry};
-ghost use Rattle.one_caller.specs.Hosts.{AreShards};
+ghost use Rattle.host_loading.specs.Hosts.{AreShards};
 ghost use Rattle.shard_book.specs.Calls.{KeepsCall};
 ghost use Rattle.shard_book.specs.Shards.{IsUnder};
 ghost use Rattle.shard_book.specs.Taking.{IsReplicaOf, LeavesReplicas};

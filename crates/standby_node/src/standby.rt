@@ -2,7 +2,7 @@
 ghost use Rattle.std.specs.Prelude.{◌≡◌, ℕ, ◌<◌, Bool, true, IsTrue, IsOk, List, [], ◌++◌, length, min, slice_get, Some, take};
 ghost use Rattle.issuer_base.specs.declared.entry.Entry.{Entry};
 ghost use Rattle.issuer_setup.specs.IssuerSetup.{Setup};
-ghost use Rattle.one_caller.specs.Hosts.{AreShards};
+ghost use Rattle.host_loading.specs.Hosts.{AreShards};
 ghost use Rattle.feed_text.specs.declared.limits.TheConstants.{MOST_FEED_BYTES};
 ghost use Rattle.standby_node.specs.OneLine.{Does};
 ghost use Rattle.standby_node.specs.Standing.{Feeds, HasTaken, Hold, KeepsNode, KeepsShards, LeavesBetween, live_in, shards_in};

@@ -5,17 +5,17 @@ ghost use Rattle.issuer_base.specs.declared.outside.DeskFault.TheVariants.{Fault
 
 use crate::file_source::FileSource;
 use crate::file_store::FileStore;
+use crate::journal_file::{FileId, open_journal};
 use crate::named_call::NamedCall;
-use issuer_base::{Desk, DeskCall, DeskFault, MAX_UNSYNCED_BYTES};
+use issuer_base::{Desk, DeskCall, DeskFault};
 use std::fs::File;
-use std::io;
-use std::os::unix::fs::{FileExt, OpenOptionsExt};
-use std::path::Path;
 
 /// Opens files by their paths. It exposes nothing of what they hold, and counts its faults.
 #[derive(Drop)]
 pub struct FileDesk {
     rt: HostRuntime,
+    /// The directory that was synced last.
+    synced: Option<FileId>,
     faults: u64,
     last_fault: Option<NamedCall>,
 }
@@ -27,6 +27,7 @@ impl FileDesk {
     {
         FileDesk {
             rt,
+            synced: None,
             faults: 0,
             last_fault: None,
         }
@@ -66,59 +67,16 @@ impl Desk for FileDesk {
     ///
     /// A file that it creates can be read and written by its owner alone, since records hold full card
     /// numbers. The file is locked for as long as the store over it lives: a second `log` of it, of this
-    /// program or of another, is a fault. The store's bytes and the file's entry in its directory are
-    /// durable at first.
+    /// program or of another, is a fault. So is a symbolic link, and a file that everyone may write. A file
+    /// that may only be read is opened all the same, and each write to it is a fault.
+    ///
+    /// The file and its directory were synced when this returns, but nothing was written to the file: its
+    /// last bytes are rewritten once the store is changed or synced.
     fn log(&mut self, name: &str) -> Result<FileStore, DeskFault> {
         let asked = String::from_str(self.rt.alloc(), name)?;
-        match open_journal(&self.rt, name) {
+        match open_journal(&self.rt, name, &mut self.synced) {
             Ok(store) => Ok(store),
             Err(_) => Err(self.fail(DeskCall::Log, asked)),
         }
     }
-}
-
-/// The mode of a created journal: its owner reads and writes it.
-const OWNER_ALONE: u32 = 0o600;
-
-/// A store over the file at this path, locked, with its bytes and its entry in the directory durable.
-fn open_journal(rt: &HostRuntime, name: &str) -> io::Result<FileStore>
-    ensures { IfOk result (λ store. store.faults ≡ 0) }
-{
-    let file = File::options()
-        .read(true)
-        .write(true)
-        .create(true)
-        .mode(OWNER_ALONE)
-        .open(rt, name)?;
-    file.try_lock()?;
-    rewrite_end(&file)?;
-    file.sync_all()?;
-    sync_directory(rt, name)?;
-    FileStore::over(file)
-}
-
-/// Rewrites the last bytes of a file as they are, so that the sync that follows makes them durable.
-///
-/// After a failed sync, the system may drop what it could not write from its list, and the next sync
-/// succeeds without it. At most one record of a journal is in doubt, or one step of its migration, and
-/// it is the last.
-fn rewrite_end(file: &File) -> io::Result<()> {
-    let len = file.metadata()?.len();
-    if len == 0 {
-        return Ok(());
-    }
-    let mut end = [0; MAX_UNSYNCED_BYTES];
-    let count = len.min(MAX_UNSYNCED_BYTES as u64);
-    let end = &mut end[..count as usize];
-    file.read_exact_at(end, len - count)?;
-    file.write_all_at(end, len - count)
-}
-
-/// Syncs the directory of this path.
-fn sync_directory(rt: &HostRuntime, name: &str) -> io::Result<()> {
-    let directory = match Path::new(name).parent() {
-        Some(directory) if !directory.as_str().is_empty() => directory,
-        _ => Path::new("."),
-    };
-    File::open(rt, directory)?.sync_all()
 }

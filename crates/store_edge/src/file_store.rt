@@ -3,23 +3,25 @@ ghost use Rattle.std.specs.Prelude.{◌≡◌, ◌⊎◌, ◌+◌, ◌≤◌, tr
 ghost use Rattle.issuer_base.specs.OutsideFaults.{CountsFaults};
 
 use crate::retry;
-use issuer_base::{MAX_STORE_BYTES, Store, StoreFail};
+use issuer_base::{MAX_STORE_BYTES, MAX_UNSYNCED_BYTES, Store, StoreFail};
 use std::fs::File;
 use std::io;
 use std::io::ErrorKind;
 
 /// A file as a store. It exposes nothing of its bytes, and counts its faults.
 ///
-/// It caches its length: the file's at first, then changed by its own writes and truncations.
+/// It caches its length: the file's at first, then changed by its own writes and truncations. It writes nothing until
+/// a call changes or syncs it, so a file that is only read stays as it is.
 #[derive(Drop)]
 pub struct FileStore {
     file: File,
     len: u64,
+    is_end_sure: bool,
     faults: u64,
 }
 
 impl FileStore {
-    /// A store over a file that is open for reading and writing.
+    /// A store over a file that is open for reading, and for writing if it is to change.
     pub(crate) fn over(file: File) -> io::Result<FileStore>
         ensures { IfOk result (λ store. store.faults ≡ 0) }
     {
@@ -27,6 +29,7 @@ impl FileStore {
         Ok(FileStore {
             file,
             len,
+            is_end_sure: len == 0,
             faults: 0,
         })
     }
@@ -67,6 +70,9 @@ impl Store for FileStore {
     }
 
     fn append(&mut self, piece: &[u8]) -> Result<(), StoreFail> {
+        if !self.is_end_sure && sync_file(&self.file, self.len, &mut self.is_end_sure).is_err() {
+            return Err(self.fault());
+        }
         match write_behind(&self.file, &mut self.len, piece) {
             Ok(()) => Ok(()),
             Err(_) => Err(self.fault()),
@@ -74,14 +80,14 @@ impl Store for FileStore {
     }
 
     fn cut(&mut self, len: u64) -> Result<(), StoreFail> {
-        match set_length(&self.file, &mut self.len, len) {
+        match set_length(&self.file, &mut self.len, len, &mut self.is_end_sure) {
             Ok(()) => Ok(()),
             Err(_) => Err(self.fault()),
         }
     }
 
     fn sync(&mut self) -> Result<(), StoreFail> {
-        match self.file.sync_all() {
+        match sync_file(&self.file, self.len, &mut self.is_end_sure) {
             Ok(()) => Ok(()),
             Err(_) => Err(self.fault()),
         }
@@ -110,11 +116,37 @@ fn write_behind(file: &File, len: &mut u64, piece: &[u8]) -> io::Result<()>
 }
 
 /// Sets the length of a file, and syncs it.
-fn set_length(file: &File, len: &mut u64, new_len: u64) -> io::Result<()>
+fn set_length(file: &File, len: &mut u64, new_len: u64, is_end_sure: &mut bool) -> io::Result<()>
     ensures ok { OnOk result (len.new ≡ new_len) }
     ensures err { (len.new ≡ len.old) ⊎ (len.new ≡ new_len) }
 {
     file.set_len(new_len)?;
     *len = new_len;
-    file.sync_all()
+    sync_file(file, new_len, is_end_sure)
+}
+
+/// Syncs a file of this length. Before the first sync that succeeds it rewrites the file's end.
+fn sync_file(file: &File, len: u64, is_end_sure: &mut bool) -> io::Result<()> {
+    if !*is_end_sure {
+        rewrite_end(file, len)?;
+    }
+    file.sync_all()?;
+    *is_end_sure = true;
+    Ok(())
+}
+
+/// Rewrites the last bytes of a file of this length as they are, so that the sync that follows makes them durable.
+///
+/// After a failed sync, the system may drop what it could not write from its list, and the next sync
+/// succeeds without it. At most one record of a journal is in doubt, or one step of its migration, and
+/// it is the last.
+fn rewrite_end(file: &File, len: u64) -> io::Result<()> {
+    if len == 0 {
+        return Ok(());
+    }
+    let mut end = [0; MAX_UNSYNCED_BYTES];
+    let count = len.min(MAX_UNSYNCED_BYTES as u64);
+    let end = &mut end[..count as usize];
+    retry::read_exact_at(file, end, len - count)?;
+    retry::write_all_at(file, end, len - count)
 }

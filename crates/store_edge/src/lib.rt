@@ -1,4 +1,5 @@
-//! What lies outside the host: the desk, the stores of a shard's records and the output over files, and a store in memory.
+//! What lies outside the host: the program's process, the desk, the stores of a shard's records and the output over files,
+//! and a store in memory.
 #![tactic(auto)]
 
 mod copy;
@@ -6,7 +7,9 @@ mod file_desk;
 mod file_sink;
 mod file_source;
 mod file_store;
+mod journal_file;
 mod named_call;
+mod process;
 mod retry;
 mod room_store;
 
@@ -16,4 +19,5 @@ pub use file_sink::FileSink;
 pub use file_source::FileSource;
 pub use file_store::FileStore;
 pub use named_call::NamedCall;
+pub use process::{Process, StartFault};
 pub use room_store::RoomStore;

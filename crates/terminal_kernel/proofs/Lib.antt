@@ -7,3 +7,6 @@ pub mod ObjectsRead
 pub mod RequestRead
 pub mod DolWalk
 pub mod DataWalk
+pub mod FieldsOf
+pub mod LineRequestRead
+pub mod LineRead

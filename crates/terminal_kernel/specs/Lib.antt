@@ -4,3 +4,4 @@ pub mod Given
 pub mod Filling
 pub mod Requested
 pub mod Held
+pub mod ChipText

@@ -3,8 +3,7 @@
 use crate::setting::{book, sample};
 use answer_text::LINE_ROOM;
 use arrayvec::ArrayVec;
-use clearing_check::Book;
-use clearing_text::{write_open, write_total, write_verdict};
+use clearing_check::{Book, write_open, write_total, write_verdict};
 use issuer_setup::Issuer;
 use std::alloc::Global;
 use std::test::Fail;

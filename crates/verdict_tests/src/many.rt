@@ -1,6 +1,6 @@
 //! Books of many records, against a plain search.
 
-use filed_records::{Filed, FiledRecords};
+use clearing_check::{Filed, FiledRecords};
 use std::alloc::Global;
 use std::test::Fail;
 

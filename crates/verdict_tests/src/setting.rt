@@ -5,9 +5,9 @@ use clearing_check::Book;
 use cryptogram_in::expected;
 use issuer_base::{Entry, Parts, Reply, Request};
 use issuer_setup::Issuer;
-use request_text::{MAX_REQUEST_LINE, request_line};
 use sample_issuer::{CARDS, CRYPTOGRAM, deciding_table, issuer, purchase, purchase_parts};
 use std::alloc::Global;
+use terminal_kernel::{MAX_REQUEST_LINE, request_line};
 
 /// The unpredictable number of the decided purchase.
 pub(crate) const UNPREDICTABLE: u32 = 0x1A2B3C4D;

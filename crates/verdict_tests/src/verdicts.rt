@@ -3,11 +3,10 @@
 use crate::setting::{book, certificate, ended, sample};
 use answer_text::LINE_ROOM;
 use arrayvec::ArrayVec;
-use clearing_check::Verdict;
-use clearing_text::write_verdict;
+use clearing_check::{Verdict, write_verdict};
 use issuer_base::{Pan, Parts, Request};
-use request_text::request_line;
 use std::test::Fail;
+use terminal_kernel::request_line;
 
 /// The cryptogram information data of a transaction certificate.
 const TC: u8 = 0x40;

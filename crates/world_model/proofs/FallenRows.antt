@@ -12,7 +12,8 @@ use Rattle.issuer_base.specs.declared.limits.TheConstants.{WINDOW}
 use Rattle.issuer_base.specs.declared.request.Request.{Request}
 use Rattle.issuer_base.specs.declared.entry.Entry.TheVariants.{Decided, Queued, Status}
 use Rattle.card_history.specs.LegalRecords.{Grounds, IsLegal, IsLegalDecision, IsLegalCommand, IsLegalStatus, IsLegalHistory}
-use Rattle.card_history.specs.Records.{card_in, card_of, named}
+use Rattle.issuer_base.specs.CardNames.{named}
+use Rattle.card_history.specs.Records.{card_in, card_of}
 use Rattle.card_history.specs.Scripts.{scripts_of, waiting}
 use Rattle.issuer_setup.specs.declared.card.CardInfo.{CardInfo}
 use Rattle.issuer_setup.specs.CardList.{name_of, number_of}

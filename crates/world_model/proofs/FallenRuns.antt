@@ -12,7 +12,8 @@ use Rattle.issuer_base.specs.declared.answer.Reply.{Reply}
 use Rattle.issuer_base.specs.declared.entry.Entry.{Entry}
 use Rattle.issuer_base.specs.declared.entry.Entry.TheVariants.{Decided, Queued as IsQueued, Status as IsStatus}
 use Rattle.card_history.specs.LegalRecords.{IsLegal, IsLegalDecision, IsLegalCommand, IsLegalStatus}
-use Rattle.card_history.specs.Records.{CardName, card_of, named}
+use Rattle.issuer_base.specs.CardNames.{CardName, named}
+use Rattle.card_history.specs.Records.{card_of}
 use Rattle.card_history.specs.ScriptOrder.{IsSentAt}
 use Rattle.card_history.specs.Scripts.{scripts_of, first_of, batch_of}
 use Rattle.issuer_setup.specs.declared.card.CardInfo.{CardInfo}

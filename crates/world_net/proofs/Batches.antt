@@ -12,7 +12,8 @@ use Rattle.issuer_base.specs.declared.answer.Reply.{Reply}
 use Rattle.issuer_base.specs.declared.entry.Entry.{Entry}
 use Rattle.issuer_base.specs.declared.entry.Entry.TheVariants.{Decided}
 use Rattle.card_history.specs.declared.decision.Decision.{Decision}
-use Rattle.card_history.specs.Records.{CardName, is_of, decided, greatest}
+use Rattle.issuer_base.specs.CardNames.{CardName}
+use Rattle.card_history.specs.Records.{is_of, decided, greatest_atc}
 use Rattle.card_history.specs.Scripts.{scripts_of, batch_of}
 use Rattle.card_history.specs.ScriptOrder.{IsSentAt}
 use Rattle.card_history.specs.Turns.{IsUnused}
@@ -105,11 +106,11 @@ unused-apart name history request other batch unused has =
     (recorded-decided name history has.place other has.reply has.record_is has.its)
 
 -- some decision is on the greatest counter
-pub greatest-one : (decisions : List Decision) (top : ℕ) → greatest decisions ≡ Some top
+pub greatest-one : (decisions : List Decision) (top : ℕ) → greatest_atc decisions ≡ Some top
     → (decision : Decision) × Contains decisions decision × (decision.request.atc ≡ top)
 greatest-one [] top is = absurd (cc)
 greatest-one (first ∷ decisions) top is =
-    elim (cases_top (greatest decisions)) [
+    elim (cases_top (greatest_atc decisions)) [
       | inl none ↦
           let alone : first.request.atc ≡ top = same_Some _ _ (sym (ap (λ so_far. Some (option_map_or (λ counter. max first.request.atc counter) so_far
           first.request.atc)) none) ∙ is) in

@@ -11,7 +11,8 @@ use Rattle.issuer_base.specs.declared.request.Request.{Request}
 use Rattle.issuer_base.specs.declared.answer.Reply.{Reply}
 use Rattle.issuer_base.specs.declared.entry.Entry.{Entry}
 use Rattle.issuer_base.specs.declared.entry.Entry.TheVariants.{Decided}
-use Rattle.card_history.specs.Records.{CardName, card_of, is_of}
+use Rattle.issuer_base.specs.CardNames.{CardName}
+use Rattle.card_history.specs.Records.{card_of, is_of}
 use Rattle.card_history.specs.Scripts.{is_newest, scripts_of}
 use Rattle.card_history.proofs.CardNames.{is_of-card_of}
 use Rattle.card_model.specs.Application.{CardState}

@@ -9,7 +9,8 @@ use Rattle.issuer_base.specs.declared.command.Command.{Command}
 use Rattle.issuer_base.specs.declared.request.Request.{Request}
 use Rattle.issuer_base.specs.declared.entry.Entry.{Entry}
 use Rattle.cvr_settle.specs.declared.settlement.Flight.{Flight}
-use Rattle.card_history.specs.Records.{CardName, card_of}
+use Rattle.issuer_base.specs.CardNames.{CardName}
+use Rattle.card_history.specs.Records.{card_of}
 use Rattle.card_history.specs.Scripts.{Scripts, is_newest, scripts_of}
 use Rattle.card_history.proofs.ScriptSteps.{scripts-queue, scripts-within}
 use Rattle.card_model.specs.Application.{CardState}

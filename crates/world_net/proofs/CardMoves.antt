@@ -7,7 +7,8 @@ use Rattle.std.proofs.lemmas.Option.{none-some, same_Some}
 use Rattle.issuer_base.specs.ChipData.{cvr, script_count, last_online}
 use Rattle.issuer_base.specs.declared.command.Command.{Command}
 use Rattle.issuer_base.specs.declared.request.Parts.{Parts}
-use Rattle.card_history.specs.Records.{card_of, named}
+use Rattle.issuer_base.specs.CardNames.{named}
+use Rattle.card_history.specs.Records.{card_of}
 use Rattle.key_derive.specs.SessionKey.{session_sm}
 use Rattle.card_model.specs.declared.card.TheConstants.{LAST_COUNTER}
 use Rattle.card_model.specs.declared.terminal.Terminal.{Terminal}

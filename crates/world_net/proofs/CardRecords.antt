@@ -17,7 +17,8 @@ use Rattle.cvr_settle.specs.declared.settlement.Settled.TheVariants.{Ran, Nothin
 use Rattle.cvr_settle.specs.Settlement.{settled}
 use Rattle.script_queue.specs.ScriptTemplate.{fitting_front}
 use Rattle.script_queue.proofs.FittingFronts.{fitting_front-front}
-use Rattle.card_history.specs.Records.{CardName, card_in, card_of, is_of, has_numbers, decided}
+use Rattle.issuer_base.specs.CardNames.{CardName}
+use Rattle.card_history.specs.Records.{card_in, card_of, is_of, has_numbers, decided}
 use Rattle.card_history.specs.Scripts.{Scripts, undone, with_command, settled_by, with_newest, is_newest, scripts_of, batch_of}
 use Rattle.card_history.specs.Turns.{IsUnused}
 use Rattle.card_history.proofs.Batches.{batch_of-newest, in_flight-newest}

@@ -13,7 +13,7 @@ use Rattle.issuer_base.specs.declared.answer.Reply.{Reply}
 use Rattle.issuer_base.specs.declared.entry.Entry.{Entry}
 use Rattle.issuer_base.specs.declared.entry.Entry.TheVariants.{Decided, Queued as IsQueued, Status as IsStatus}
 use Rattle.card_history.specs.LegalRecords.{IsLegal, IsLegalDecision, IsLegalCommand, IsLegalStatus, IsLegalHistory}
-use Rattle.card_history.specs.Records.{CardName, named}
+use Rattle.issuer_base.specs.CardNames.{CardName, named}
 use Rattle.issuer_setup.specs.IssuerSetup.{Setup}
 use Rattle.issuer_setup.proofs.CardListLemmas.{number_of-found}
 use Rattle.issuer_setup.specs.KeyList.{AreKeys}
@@ -22,7 +22,7 @@ use Rattle.card_model.specs.Application.{CardState}
 use Rattle.chip_request.specs.Reading.{request_of}
 use Rattle.journal_rec.specs.Record.{IsEntry}
 use Rattle.terminal_kernel.specs.Requested.{chip_data}
-use Rattle.request_text.proofs.RequestRead.{request_of-chip_data, length-chip_data}
+use Rattle.terminal_kernel.proofs.LineRequestRead.{request_of-chip_data, length-chip_data}
 use Rattle.shard_book.specs.Grounds.{grounds_of}
 use Rattle.shard_book.proofs.LegalDecisions.{legal-checked}
 use Rattle.world_net.specs.declared.event.Event.{Event}

@@ -14,7 +14,8 @@ use Rattle.issuer_base.specs.declared.entry.Entry.TheVariants.{Decided, Queued, 
 use Rattle.card_history.specs.declared.decision.Decision.{Decision}
 use Rattle.card_history.specs.LegalRecords.{IsLegal, IsLegalDecision, IsLegalHistory}
 use Rattle.card_history.specs.OneReply.{IsOncePerCounter}
-use Rattle.card_history.specs.Records.{CardName, card_of, card_in}
+use Rattle.issuer_base.specs.CardNames.{CardName}
+use Rattle.card_history.specs.Records.{card_of, card_in}
 use Rattle.card_history.specs.Turns.{IsUnused, decided_for}
 use Rattle.card_history.proofs.LegalDecisions.{legal-unused}
 use Rattle.card_history.proofs.CardNames.{is_of-same}

@@ -12,7 +12,8 @@ use Rattle.issuer_base.specs.declared.request.Request.{Request}
 use Rattle.issuer_base.specs.declared.answer.Reply.{Reply}
 use Rattle.issuer_base.specs.declared.entry.Entry.TheVariants.{Decided, Queued as IsQueued, Status as IsStatus}
 use Rattle.card_history.specs.LegalRecords.{IsLegal, IsLegalDecision}
-use Rattle.card_history.specs.Records.{CardName, card_of, decided, is_of, has_numbers}
+use Rattle.issuer_base.specs.CardNames.{CardName}
+use Rattle.card_history.specs.Records.{card_of, decided, is_of, has_numbers}
 use Rattle.card_history.specs.Turns.{IsUnused}
 use Rattle.card_history.proofs.LegalDecisions.{legal-unused}
 use Rattle.card_history.proofs.CardNames.{is_of-card_of, has_numbers-named}

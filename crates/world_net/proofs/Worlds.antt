@@ -12,7 +12,8 @@ use Rattle.issuer_base.specs.declared.entry.Entry.{Entry}
 use Rattle.issuer_base.specs.declared.entry.Entry.TheVariants.{Decided, Queued as IsQueued, Status as IsStatus}
 use Rattle.card_history.specs.declared.decision.Asked.TheVariants.{Decide}
 use Rattle.card_history.specs.LegalRecords.{IsLegal, IsLegalDecision}
-use Rattle.card_history.specs.Records.{card_of, named}
+use Rattle.issuer_base.specs.CardNames.{named}
+use Rattle.card_history.specs.Records.{card_of}
 use Rattle.issuer_setup.specs.declared.card.CardInfo.{CardInfo}
 use Rattle.issuer_setup.specs.CardList.{name_of, number_of}
 use Rattle.issuer_setup.specs.IssuerSetup.{Setup}

@@ -5,7 +5,8 @@ use Rattle.issuer_base.specs.declared.command.Command.{Command}
 use Rattle.issuer_base.specs.declared.answer.Reply.{Reply}
 use Rattle.issuer_base.specs.declared.entry.Entry.{Entry}
 use Rattle.issuer_base.specs.declared.entry.Entry.TheVariants.{Decided}
-use Rattle.card_history.specs.Records.{CardName, queue}
+use Rattle.issuer_base.specs.CardNames.{CardName}
+use Rattle.card_history.specs.Records.{queue}
 use Rattle.card_history.specs.Scripts.{scripts_of}
 use Rattle.card_history.specs.OneReply.{IsOncePerCounter}
 use Rattle.issuer_setup.specs.declared.card.CardInfo.{CardInfo}

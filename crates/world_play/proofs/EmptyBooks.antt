@@ -18,12 +18,12 @@ use Rattle.shard_book.specs.declared.shard.Shard.{Shard}
 use Rattle.shard_book.specs.Loading.{DiffersAt, StopsAt, StopsJournal, StopsText, is_store_failure}
 use Rattle.shard_book.specs.Shards.{faults_in, IsJournalOf, IsTakenFor}
 use Rattle.shard_book.specs.Versions.{text_in, HasText}
-use Rattle.one_caller.specs.Books.{Book}
-use Rattle.one_caller.specs.Hosts.{Stand, StandsForBook}
+use Rattle.host_loading.specs.Books.{ShardBook}
+use Rattle.host_loading.specs.Hosts.{Stand, StandsForBook}
 use Rattle.shard_book.specs.Loads.{IsLoadedFrom}
-use Rattle.one_caller.specs.Loading.{AreLoaded, ComeBack}
-use Rattle.one_caller.proofs.Loads.{shard-of}
-use Rattle.one_caller.proofs.Places.{read-within}
+use Rattle.host_loading.specs.Loading.{AreLoaded, ComeBack}
+use Rattle.host_loading.proofs.Loads.{shard-of}
+use Rattle.host_loading.proofs.Places.{read-within}
 use Rattle.one_caller.proofs.Running.{stands-loaded}
 use Rattle.world_play.specs.Play.{empty_book}
 
@@ -72,10 +72,10 @@ module _ {S : Type 0} {G : Ghosts S} (setup : Setup) where
   stands-empty : (number : ℕ) (old old_then store : S) (shard : Shard S G) → IsLoadedFrom setup number old old_then store shard → G.bytes old ≡ Some []
       → G.bytes store ≡ Some [] → G.faults store ≡ 0 → StandsForBook setup shard empty_book
   stands-empty number old old_then store shard from old_empty empty none =
-      subst (λ (book : Book). StandsForBook setup shard book)
-      (ap (λ (history : List Entry). record { history = history; faults = faults_in shard; told = 0 })
+      subst (λ (book : ShardBook). StandsForBook setup shard book)
+      (ap (λ (history : List Entry). record { history = history; faults = faults_in shard; reported = 0 })
       (history-none number old old_then store shard from old_empty empty)
-      ∙ ap (λ (faults : ℕ). record { history = []; faults = faults; told = 0 }) (from.counts.counted ∙ none))
+      ∙ ap (λ (faults : ℕ). record { history = []; faults = faults; reported = 0 }) (from.counts.counted ∙ none))
       (stands-loaded setup number old old_then store shard from)
 
   -- the shards of empty stores
@@ -88,7 +88,7 @@ module _ {S : Type 0} {G : Ghosts S} (setup : Setup) where
     each = λ number shard book shard_is book_is.
         let its = shard-of setup olds read stores shards loaded number shard shard_is in
         let none = empty number its.store its.store_is in
-        subst (λ (book : Book). StandsForBook setup shard book) (sym (replicate-at count empty_book number book book_is))
+        subst (λ (book : ShardBook). StandsForBook setup shard book) (sym (replicate-at count empty_book number book book_is))
         (stands-empty number its.old its.old_then its.store shard its.from (old_empty number its.old its.old_is) none.0 none.1);
   }
 

@@ -5,8 +5,8 @@ use Rattle.issuer_setup.specs.IssuerSetup.{Setup}
 use Rattle.issuer_base.specs.declared.request.Parts.{Parts}
 use Rattle.card_model.specs.Application.{CardState}
 use Rattle.card_model.specs.CardSteps.{CardStep, Tap as TapEvent}
-use Rattle.one_caller.specs.Books.{Book}
-use Rattle.one_caller.specs.Hosts.{Stand}
+use Rattle.host_loading.specs.Books.{ShardBook}
+use Rattle.host_loading.specs.Hosts.{Stand}
 use Rattle.world_play.specs.declared.house.House.{House}
 use Rattle.world_play.specs.declared.moves.Move.{Move}
 use Rattle.world_play.specs.declared.moves.Move.TheVariants.{Tap}
@@ -57,8 +57,8 @@ tapped_once house player step request card tally moved counted = record {
 -- so many of the moves were made: from whatever books, the rest lead on from where they led to
 pub record IsOnTheWay (step : Step) (moves : List Move) (made : ℕ) (old : House) (before : Player) (new : House) (after : Player) : Type 0 where
   pub issuer_is : new.host.issuer ≡ old.host.issuer
-  pub leads : (books : List Book) → Stand old.host.issuer old.host.shards.items books
-      → (last : List Book) × Stand new.host.issuer new.host.shards.items last
+  pub leads : (books : List ShardBook) → Stand old.host.issuer old.host.shards.items books
+      → (last : List ShardBook) × Stand new.host.issuer new.host.shards.items last
       × ((end : Stage) → MakesAll old.host.issuer step (drop made moves) (stage_at new after last) end
       → MakesAll old.host.issuer step moves (stage_at old before books) end)
 

@@ -22,7 +22,8 @@ use Rattle.issuer_base.specs.ChipData.{amount_value}
 use Rattle.issuer_base.proofs.ChipDataLemmas.{amount_value-below}
 use Rattle.card_history.specs.LegalRecords.{IsLegalDecision}
 use Rattle.card_history.specs.OneReply.{reply_in}
-use Rattle.card_history.specs.Records.{CardName, card_of, status_of}
+use Rattle.issuer_base.specs.CardNames.{CardName}
+use Rattle.card_history.specs.Records.{card_of, status_of}
 use Rattle.card_history.specs.Scripts.{scripts_of}
 use Rattle.card_history.specs.Turns.{IsUnused, decided_for}
 use Rattle.card_history.proofs.RecordPlaces.{decided-recorded}
@@ -36,19 +37,19 @@ use Rattle.issuer_setup.specs.IssuerSetup.{Setup, shard_of, keys_of}
 use Rattle.issuer_setup.proofs.Shards.{shard_of-known}
 use Rattle.cryptogram_in.specs.Cryptogram.{application_cryptogram, cryptogram_under}
 use Rattle.key_derive.specs.CardKey.{des_keys}
-use Rattle.suite_mac.specs.SuiteMac.{mac_of}
+use Rattle.key_derive.specs.SuiteMac.{mac_of}
 use Rattle.retail_mac.proofs.Blocks.{length-retail_mac}
 use Rattle.key_derive.specs.declared.card.CardKeys.{CardKeys}
 use Rattle.row_core.specs.Accepting.{IsMade as IsMadeReply}
 use Rattle.row_core.specs.Replying.{reply_to, reply_of_card, reply_by, reply_by_row, no_reply}
-use Rattle.request_text.proofs.FieldsOf.{has_fields}
+use Rattle.terminal_kernel.proofs.FieldsOf.{has_fields}
 use Rattle.shard_book.specs.Answering.{is_store_fault, AnswersClaimed}
 use Rattle.shard_book.specs.Grounds.{IsMadeBy, grounds_of}
 use Rattle.shard_book.proofs.LegalDecisions.{legal-by}
 use Rattle.shard_book.proofs.OwnDecisions.{row-made}
-use Rattle.one_caller.specs.Books.{Book, histories_of as book_histories}
+use Rattle.host_loading.specs.Books.{ShardBook, histories_of as book_histories}
 use Rattle.one_caller.specs.Turns.{AnswersIn}
-use Rattle.one_caller.proofs.Places.{write-same}
+use Rattle.host_loading.proofs.Places.{write-same}
 use Rattle.world_net.specs.declared.parts.MadeRequest.{MadeRequest}
 use Rattle.world_net.specs.declared.parts.Exchange.{Exchange}
 use Rattle.world_net.specs.WorldState.{WorldState, ShardState, shard_at, record_in, histories_of, with_record}
@@ -133,16 +134,16 @@ module _ (cards number : ℕ) (request : Request) (right : IsRight cards number 
 -- ---- histories and books
 
 -- a shard's history is that of its book
-pub book-history : (world : WorldState) (books : List Book) → histories_of world ≡ book_histories books → (shard : ℕ) (book : Book)
+pub book-history : (world : WorldState) (books : List ShardBook) → histories_of world ≡ book_histories books → (shard : ℕ) (book : ShardBook)
     → slice_get books shard ≡ Some book → (shard_at world shard).history ≡ book.history
 book-history world books same shard book is =
     sym (histories-at world.shards shard)
     ∙ ap (λ (histories : List (List Entry)). get_or histories shard []) same
     ∙ get_or_from_slice_get (book_histories books) shard book.history []
-    (slice_get-map (λ (b : Book). b.history) books shard ∙ ap (λ (found : Option Book). option_map (λ (b : Book). b.history) found) is)
+    (slice_get-map (λ (b : ShardBook). b.history) books shard ∙ ap (λ (found : Option ShardBook). option_map (λ (b : ShardBook). b.history) found) is)
 
 -- one more record in a shard is one more in its book
-pub histories-more : (world : WorldState) (books : List Book) → histories_of world ≡ book_histories books → (shard : ℕ) (old new : Book) (entry : Entry)
+pub histories-more : (world : WorldState) (books : List ShardBook) → histories_of world ≡ book_histories books → (shard : ℕ) (old new : ShardBook) (entry : Entry)
     → slice_get books shard ≡ Some old → new.history ≡ old.history ++ entry ∷ []
     → histories_of (with_record world shard entry) ≡ book_histories (slice_set books shard new)
 histories-more world books same shard old new entry is grown =
@@ -151,30 +152,30 @@ histories-more world books same shard old new entry is grown =
     ap (λ (history : List Entry). history ++ entry ∷ []) (book-history world books same shard old is) ∙ sym grown in
     map-set (λ (s : ShardState). s.history) world.shards shard state
     ∙ (λ i. set (same i) shard (history i))
-    ∙ sym (map-set (λ (b : Book). b.history) books shard new)
+    ∙ sym (map-set (λ (b : ShardBook). b.history) books shard new)
 
 -- and a book that didn't grow leaves the histories
-pub histories-stay : (books : List Book) (shard : ℕ) (old new : Book) → slice_get books shard ≡ Some old → new.history ≡ old.history
+pub histories-stay : (books : List ShardBook) (shard : ℕ) (old new : ShardBook) → slice_get books shard ≡ Some old → new.history ≡ old.history
     → book_histories books ≡ book_histories (slice_set books shard new)
 histories-stay books shard old new is same =
     sym (write-same (book_histories books) shard old.history new.history
-    (slice_get-map (λ (b : Book). b.history) books shard ∙ ap (λ (found : Option Book). option_map (λ (b : Book). b.history) found) is) same)
-    ∙ sym (map-set (λ (b : Book). b.history) books shard new)
+    (slice_get-map (λ (b : ShardBook). b.history) books shard ∙ ap (λ (found : Option ShardBook). option_map (λ (b : ShardBook). b.history) found) is) same)
+    ∙ sym (map-set (λ (b : ShardBook). b.history) books shard new)
 
 -- ---- the answer to a request
 
 -- the world after an answer to a request, with the books after it
-pub record IsAfterAnswer (cards : ℕ) (world : WorldState) (request : Request) (answer : Answer) (books : List Book) (after : WorldState) : Type 0 where
+pub record IsAfterAnswer (cards : ℕ) (world : WorldState) (request : Request) (answer : Answer) (books : List ShardBook) (after : WorldState) : Type 0 where
   pub played : IsPlayed cards after
   pub histories : histories_of after ≡ book_histories books
   pub cards_are : after.cards ≡ world.cards
   pub made : (made : MadeRequest) → Contains world.made made → Contains after.made made
   pub sent : (reply : Reply) → reply_in answer ≡ Some reply → Contains after.sent (record { request = request; reply = reply })
 
-abbrev pub HasAfter : ℕ → WorldState → Request → Answer → List Book → Type 0
+abbrev pub HasAfter : ℕ → WorldState → Request → Answer → List ShardBook → Type 0
 HasAfter cards world request answer books = (after : WorldState) × IsAfterAnswer cards world request answer books after
 
-module _ (cards number : ℕ) (valid : IsIssuer (issuer cards)) (world : WorldState) (played : IsPlayed cards world) (books after : List Book)
+module _ (cards number : ℕ) (valid : IsIssuer (issuer cards)) (world : WorldState) (played : IsPlayed cards world) (books after : List ShardBook)
     (same : histories_of world ≡ book_histories books) (request : Request) (made : Contains world.made (record { card = number; request = request })) where
   -- what may be answered
   abbrev pub MayAnswer : Answer → Type 0

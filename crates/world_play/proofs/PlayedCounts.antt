@@ -9,8 +9,8 @@ use Rattle.issuer_setup.specs.declared.card.CardInfo.{CardInfo}
 use Rattle.issuer_setup.specs.CardList.{name_of}
 use Rattle.issuer_setup.specs.IssuerSetup.{Setup, shard_of}
 use Rattle.issuer_setup.proofs.Shards.{shard_of-known}
-use Rattle.one_caller.specs.Books.{histories_of as book_histories}
-use Rattle.one_caller.proofs.Places.{read-within}
+use Rattle.host_loading.specs.Books.{histories_of as book_histories}
+use Rattle.host_loading.proofs.Places.{read-within}
 use Rattle.world_net.specs.WorldState.{WorldState, shard_at}
 use Rattle.world_net.specs.WorldRuns.{IsIssuer}
 use Rattle.world_net.specs.Safety.{RanInOrder}

@@ -15,7 +15,8 @@ use Rattle.cvr_settle.specs.declared.settlement.Flight.{Flight}
 use Rattle.cvr_settle.specs.declared.settlement.Settled.TheVariants.{Ran, Nothing, Halt}
 use Rattle.cvr_settle.specs.Settlement.{settled}
 use Rattle.issuer_base.specs.ChipData.{last_online, script_count}
-use Rattle.card_history.specs.Records.{CardName, card_of, queue, has_numbers}
+use Rattle.issuer_base.specs.CardNames.{CardName}
+use Rattle.card_history.specs.Records.{card_of, queue, has_numbers}
 use Rattle.card_history.specs.Scripts.{Scripts, scripts_of, batch_of, first_of, is_newest, in_flight, with_newest, launched, settled_by, undone}
 use Rattle.card_history.specs.ScriptOrder.{IsSentAt}
 use Rattle.card_history.proofs.CardNames.{is_of-card_of}

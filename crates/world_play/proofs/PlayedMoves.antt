@@ -19,7 +19,8 @@ use Rattle.issuer_base.specs.declared.entry.Entry.TheVariants.{Decided}
 use Rattle.card_history.specs.declared.decision.Asked.{Asked}
 use Rattle.card_history.specs.declared.decision.Decision.{Decision}
 use Rattle.card_history.specs.OneReply.{reply_in}
-use Rattle.card_history.specs.Records.{CardName, card_of, greatest}
+use Rattle.issuer_base.specs.CardNames.{CardName}
+use Rattle.card_history.specs.Records.{card_of, greatest_atc}
 use Rattle.card_history.specs.Turns.{decided_for}
 use Rattle.card_history.proofs.RecordPlaces.{decided-recorded}
 use Rattle.card_history.proofs.CardNames.{is_of-names}
@@ -31,10 +32,10 @@ use Rattle.issuer_setup.specs.CardList.{number_of}
 use Rattle.issuer_setup.specs.IssuerSetup.{Setup, shard_of}
 use Rattle.row_core.specs.Replying.{reply_to}
 use Rattle.shard_book.specs.Answering.{is_store_fault, AnswersClaimed}
-use Rattle.request_text.specs.ChipText.{request_line}
-use Rattle.one_caller.specs.Books.{Book, histories_of as book_histories}
+use Rattle.terminal_kernel.specs.ChipText.{request_line}
+use Rattle.host_loading.specs.Books.{ShardBook, histories_of as book_histories}
 use Rattle.one_caller.specs.Turns.{Turn, AnswersIn}
-use Rattle.one_caller.proofs.Places.{read-written, read-other}
+use Rattle.host_loading.proofs.Places.{read-written, read-other}
 use Rattle.world_net.specs.declared.parts.MadeRequest.{MadeRequest}
 use Rattle.world_net.specs.WorldState.{WorldState, ShardState, shard_at, home_of, history_for, histories_of}
 use Rattle.world_net.specs.WorldRuns.{IsIssuer}
@@ -223,7 +224,7 @@ module _ (cards number : ℕ) (valid : IsIssuer (issuer cards)) (below : number 
 
   -- ---- a line is answered
 
-  asked-stage : (most : ℕ) (world later : WorldState) (before : Stage) (answer : Answer) (books : List Book) (request : Request)
+  asked-stage : (most : ℕ) (world later : WorldState) (before : Stage) (answer : Answer) (books : List ShardBook) (request : Request)
       → IsAsking cards number most world before request → IsAfterAnswer cards world request answer books later
       → IsAsking cards number most later (answered before answer books) request
   asked-stage most world later before answer books request asking it = record {
@@ -275,7 +276,7 @@ module _ (cards number : ℕ) (valid : IsIssuer (issuer cards)) (below : number 
       let right = asking.idle.played.made number request asking.made in
       let turn = subst (λ (said : Result Asked Refusal). Turn (issuer cards) before.books said it.answer it.books) right.spoils it.turn in
       let stage_is : after ≡ answered before (Refused BadCryptogram) before.books =
-      it.after_is ∙ ap₂ (λ (answer : Answer) (books : List Book). answered before answer books) turn.0 turn.1 in (
+      it.after_is ∙ ap₂ (λ (answer : Answer) (books : List ShardBook). answered before answer books) turn.0 turn.1 in (
         world,
         later-same number world,
         subst (λ (stage : Stage). IsAsking cards number most world stage request) (sym stage_is) (record {
@@ -295,7 +296,7 @@ module _ (cards number : ℕ) (valid : IsIssuer (issuer cards)) (below : number 
 
   -- the newest request is decided
   newest-greatest : (world : WorldState) (request : Request) (top : ℕ) → IsNewest world request
-      → greatest (decided_for request (history_for world request)) ≡ Some top → top < request.atc
+      → greatest_atc (decided_for request (history_for world request)) ≡ Some top → top < request.atc
   newest-greatest world request top newest is =
       let it = greatest-one (decided_for request (history_for world request)) top is in
       let lower = newest it.0 it.1 in
@@ -318,7 +319,7 @@ module _ (cards number : ℕ) (valid : IsIssuer (issuer cards)) (below : number 
   newest-refused world request history new (UnknownKey index) newest same works it = absurd it
   newest-refused world request history new BadCryptogram newest same works it = absurd it
   newest-refused world request history new (Below top) newest same works it =
-      let lower = newest-greatest world request top newest (ap (λ (history : List Entry). greatest (decided_for request history)) same ∙ it.0.greatest_is) in
+      let lower = newest-greatest world request top newest (ap (λ (history : List Entry). greatest_atc (decided_for request history)) same ∙ it.0.greatest_is) in
       let old = it.0.below in
       absurd (omega (arith, lower, old))
   newest-refused world request history new (Taken at place) newest same works it =
@@ -548,11 +549,11 @@ module _ (cards number : ℕ) (valid : IsIssuer (issuer cards)) (below : number 
       → Makes (issuer cards) step Hand asked after → IsIdle cards number most world after
   none-held most step world before taken asked after idle none takes asks hands =
       let none_in : taken.player.request ≡ None = ap (λ (stage : Stage). stage.player.request) takes ∙ none in
-      let none_told : taken.player.reply ≡ None = ap (λ (stage : Stage). stage.player.reply) takes in
+      let none_reported : taken.player.reply ≡ None = ap (λ (stage : Stage). stage.player.reply) takes in
       let asked_is : asked ≡ taken = subst (λ (request : Option Parts). IsAsked (issuer cards) (λ request. request) request taken asked) none_in asks in
       let after_is : after ≡ asked =
       hands ∙ ap (λ (reply : Option Reply). handed (λ answer. answer) (λ commands. commands) reply asked)
-      (ap (λ (stage : Stage). stage.player.reply) asked_is ∙ none_told) in
+      (ap (λ (stage : Stage). stage.player.reply) asked_is ∙ none_reported) in
       subst (λ (stage : Stage). IsIdle cards number most world stage) (sym (after_is ∙ asked_is ∙ takes)) (record {
         played = idle.played;
         card_is = idle.card_is;

@@ -30,7 +30,7 @@ use Rattle.issuer_setup.proofs.Shards.{shard_of-known}
 use Rattle.line_checks.specs.Reading.{said_by, command_for, reading}
 use Rattle.shard_book.specs.Answering.{is_store_fault, AnswersQueueing}
 use Rattle.shard_book.specs.Grounds.{grounds_of}
-use Rattle.one_caller.specs.Books.{Book, histories_of as book_histories}
+use Rattle.host_loading.specs.Books.{ShardBook, histories_of as book_histories}
 use Rattle.one_caller.specs.Turns.{AnswersIn}
 use Rattle.world_net.specs.declared.parts.MadeRequest.{MadeRequest}
 use Rattle.world_net.specs.Allowed.{CanQueue}
@@ -94,17 +94,17 @@ line-queues cards valid step k small below =
     ∙ ap (λ (command : Option Command). command_for (name_of (card_info step.card)) (Some step.card) command) (command-read step k)
 
 -- the world after the answer to it
-pub record IsAfterQueue (cards : ℕ) (world : WorldState) (books : List Book) (after : WorldState) : Type 0 where
+pub record IsAfterQueue (cards : ℕ) (world : WorldState) (books : List ShardBook) (after : WorldState) : Type 0 where
   pub played : IsPlayed cards after
   pub histories : histories_of after ≡ book_histories books
   pub cards_are : after.cards ≡ world.cards
   pub made : (made : MadeRequest) → Contains world.made made → Contains after.made made
 
-abbrev pub HasQueue : ℕ → WorldState → List Book → Type 0
+abbrev pub HasQueue : ℕ → WorldState → List ShardBook → Type 0
 HasQueue cards world books = (after : WorldState) × IsAfterQueue cards world books after
 
 module _ (cards number : ℕ) (valid : IsIssuer (issuer cards)) (below : number < cards) (world : WorldState) (played : IsPlayed cards world)
-    (books after : List Book) (same : histories_of world ≡ book_histories books) (command : Command) (sendable : IsSendable command) where
+    (books after : List ShardBook) (same : histories_of world ≡ book_histories books) (command : Command) (sendable : IsSendable command) where
   abbrev pub MayQueue : Answer → Type 0
   MayQueue answer =
       AnswersIn (issuer cards) books (name_of (card_info number)) answer

@@ -23,7 +23,7 @@ use Rattle.key_derive.specs.CardKey.{des_keys}
 use Rattle.key_derive.specs.declared.card.CardKeys.{CardKeys}
 use Rattle.key_derive.specs.SessionKey.{session_ac}
 use Rattle.retail_mac.specs.Mac.{retail_mac}
-use Rattle.suite_mac.specs.SuiteMac.{mac_of}
+use Rattle.key_derive.specs.SuiteMac.{mac_of}
 use Rattle.issuer_base.specs.declared.request.Suite.{Suite}
 use Rattle.issuer_base.specs.declared.request.Suite.TheVariants.{TripleDes, Aes}
 use Rattle.issuer_base.specs.ChipData.{suite_of}
@@ -38,9 +38,9 @@ use Rattle.journal_rec.specs.RecordText.{pan_bytes, request_fields}
 use Rattle.journal_rec.proofs.PanText.{IsBytes-pan_bytes, length-pan_bytes}
 use Rattle.journal_rec.proofs.Words.{IsBytes-two}
 use Rattle.line_checks.specs.Reading.{checked, checked_data, said_by, of_card, under_keys, is_right, reading}
-use Rattle.request_text.specs.ChipText.{request_line}
-use Rattle.request_text.proofs.RequestRead.{request_of-chip_data}
-use Rattle.request_text.proofs.LineRead.{line_of-request_line}
+use Rattle.terminal_kernel.specs.ChipText.{request_line}
+use Rattle.terminal_kernel.proofs.LineRequestRead.{request_of-chip_data}
+use Rattle.terminal_kernel.proofs.LineRead.{line_of-request_line}
 use Rattle.card_model.specs.Application.{CardState, script_results, core_identifier, application_data, next_fields, next_request}
 use Rattle.card_model.specs.CardSteps.{with_open, with_answer, with_command, with_failure, new_card}
 use Rattle.card_model.proofs.Requests.{is_request-fields}

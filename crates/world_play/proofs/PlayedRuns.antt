@@ -18,7 +18,7 @@ use Rattle.secure_msg.proofs.Opening.{opened_command-AreSealed, length-command_m
 use Rattle.card_model.specs.Application.{CardState}
 use Rattle.card_model.specs.CardSteps.{CardStep, Run as IsRun, opened_within, after_command, with_command, with_failure}
 use Rattle.card_model.proofs.Steps.{command-ran, command-refused}
-use Rattle.one_caller.proofs.Places.{read-written, read-other}
+use Rattle.host_loading.proofs.Places.{read-written, read-other}
 use Rattle.world_net.specs.declared.event.Event.{Event}
 use Rattle.world_net.specs.declared.event.Event.TheVariants.{Run}
 use Rattle.world_net.specs.WorldState.{WorldState, history_for, with_card}

@@ -13,8 +13,8 @@ use Rattle.issuer_base.specs.declared.request.Request.{Request}
 use Rattle.issuer_setup.specs.IssuerSetup.{Setup}
 use Rattle.card_model.specs.Application.{CardState}
 use Rattle.card_model.specs.CardSteps.{new_card}
-use Rattle.one_caller.specs.Books.{histories_of as book_histories}
-use Rattle.one_caller.proofs.Places.{read-within, read-other}
+use Rattle.host_loading.specs.Books.{histories_of as book_histories}
+use Rattle.host_loading.proofs.Places.{read-within, read-other}
 use Rattle.world_net.specs.Fate.{fate_of}
 use Rattle.world_net.specs.WorldState.{WorldState, ShardState, no_shard, histories_of}
 use Rattle.world_net.specs.WorldRuns.{IsIssuer, IsNewWorld}

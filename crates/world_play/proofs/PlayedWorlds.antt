@@ -22,7 +22,7 @@ use Rattle.issuer_setup.specs.CardList.{number_of}
 use Rattle.issuer_setup.specs.IssuerSetup.{Setup}
 use Rattle.line_checks.specs.Reading.{checked}
 use Rattle.terminal_kernel.specs.Requested.{chip_data}
-use Rattle.request_text.proofs.RequestRead.{request_of-chip_data}
+use Rattle.terminal_kernel.proofs.LineRequestRead.{request_of-chip_data}
 use Rattle.card_model.specs.declared.card.TheConstants.{LAST_COUNTER}
 use Rattle.card_model.specs.declared.terminal.Terminal.{Terminal}
 use Rattle.card_model.specs.Application.{CardState, next_request}

@@ -7,16 +7,16 @@ use Rattle.std.specs.List.{range_with_len}
 use Rattle.std.proofs.lemmas.Option.{slice_get-map, get_or_from_slice_get}
 use Rattle.std.proofs.lemmas.List.Sums.{sum_by-cons}
 use Rattle.issuer_base.specs.declared.outside.store.Store.{Ghosts}
-use Rattle.card_history.specs.Records.{CardName}
+use Rattle.issuer_base.specs.CardNames.{CardName}
 use Rattle.issuer_setup.specs.declared.card.CardInfo.{CardInfo}
 use Rattle.issuer_setup.specs.CardList.{name_of, number_of}
 use Rattle.issuer_setup.specs.IssuerSetup.{Setup, shard_of}
 use Rattle.shard_book.specs.declared.shard.Shard.{Shard}
 use Rattle.card_history.specs.declared.card_view.CardView.{CardView}
-use Rattle.one_caller.specs.Books.{Book, histories_of}
-use Rattle.one_caller.specs.Hosts.{AreShards, Stand}
+use Rattle.host_loading.specs.Books.{ShardBook, histories_of}
+use Rattle.host_loading.specs.Hosts.{AreShards, Stand}
 use Rattle.card_history.specs.CardViews.{card_shown}
-use Rattle.one_caller.proofs.Places.{read-within}
+use Rattle.host_loading.proofs.Places.{read-within}
 use Rattle.world_net.specs.Fate.{fate_of}
 use Rattle.world_play.specs.declared.house.House.{House}
 use Rattle.world_play.specs.declared.moves.Move.{Move}
@@ -81,9 +81,9 @@ shard-within setup name some =
     ]
 
 -- what a host shows of a card is what its shard's book says
-pub shown_is : {S : Type 0} {G : Ghosts S} (setup : Setup) (shards : List (Shard S G)) (books : List Book) (info : CardInfo) (view : CardView)
+pub shown_is : {S : Type 0} {G : Ghosts S} (setup : Setup) (shards : List (Shard S G)) (books : List ShardBook) (info : CardInfo) (view : CardView)
     → AreShards setup shards → Stand setup shards books → 0 < setup.shards
-    → ((book : Book) → slice_get books (shard_of setup (name_of info)) ≡ Some book → view ≡ card_shown (name_of info) book.history)
+    → ((book : ShardBook) → slice_get books (shard_of setup (name_of info)) ≡ Some book → view ≡ card_shown (name_of info) book.history)
     → view ≡ shown setup books info
 shown_is setup shards books info view are stand some shows =
     let below = shard-within setup (name_of info) some in
@@ -92,14 +92,14 @@ shown_is setup shards books info view are stand some shows =
     let within : shard_of setup (name_of info) < length books = omega (arith, below, count, many) in
     let book = read-within books (shard_of setup (name_of info)) within in
     let histories : slice_get (histories_of books) (shard_of setup (name_of info)) ≡ Some book.0.history =
-    slice_get-map (λ (b : Book). b.history) books (shard_of setup (name_of info)) ∙ ap (λ (o : Option Book). option_map (λ (b : Book). b.history) o) book.1 in
+    slice_get-map (λ (b : ShardBook). b.history) books (shard_of setup (name_of info)) ∙ ap (λ (o : Option ShardBook). option_map (λ (b : ShardBook). b.history) o) book.1 in
     let history = get_or_from_slice_get (histories_of books) (shard_of setup (name_of info)) book.0.history [] histories in
     shows book.0 book.1 ∙ ap (card_shown (name_of info)) (sym history)
 
 -- so one more card adds what is shown of it
-pub shown_more : {S : Type 0} {G : Ghosts S} (setup : Setup) (shards : List (Shard S G)) (books : List Book) (f : CardView → ℕ) (number : ℕ) (view : CardView)
+pub shown_more : {S : Type 0} {G : Ghosts S} (setup : Setup) (shards : List (Shard S G)) (books : List ShardBook) (f : CardView → ℕ) (number : ℕ) (view : CardView)
     (total more : ℕ) → AreShards setup shards → Stand setup shards books → 0 < setup.shards → number < length setup.cards
-    → ((info : CardInfo) (book : Book) → slice_get setup.cards number ≡ Some info → slice_get books (shard_of setup (name_of info)) ≡ Some book
+    → ((info : CardInfo) (book : ShardBook) → slice_get setup.cards number ≡ Some info → slice_get books (shard_of setup (name_of info)) ≡ Some book
     → view ≡ card_shown (name_of info) book.history)
     → total ≡ sum_by (λ info. f (shown setup books info)) (take number setup.cards) → more ≡ f view
     → total + more ≡ sum_by (λ info. f (shown setup books info)) (take (number + 1) setup.cards)

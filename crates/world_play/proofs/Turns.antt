@@ -10,7 +10,7 @@ use Rattle.std.proofs.lemmas.List.FromFn.{length-map-range_with_len, get_or-map-
 use Rattle.card_model.specs.CardSteps.{new_card}
 use Rattle.issuer_base.specs.declared.limits.TheConstants.{MAX_CARDS}
 use Rattle.one_caller.specs.Room.{added_at}
-use Rattle.one_caller.proofs.Places.{read-written, read-other}
+use Rattle.host_loading.proofs.Places.{read-written, read-other}
 use Rattle.world_play.specs.declared.house.House.{House}
 use Rattle.world_play.specs.declared.moves.Move.{Move}
 use Rattle.world_play.specs.declared.player.Player.{Player}

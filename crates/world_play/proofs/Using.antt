@@ -12,7 +12,8 @@ use Rattle.issuer_base.specs.declared.answer.Reply.{Reply}
 use Rattle.issuer_base.specs.declared.request.Parts.{Parts}
 use Rattle.journal_rec.specs.declared.limits.TheConstants.{MOST_QUEUED_BYTES, MOST_RECORD_BYTES}
 use Rattle.card_history.specs.declared.decision.Asked.{Asked}
-use Rattle.card_history.specs.Records.{CardName, named, card_of}
+use Rattle.issuer_base.specs.CardNames.{CardName, named}
+use Rattle.card_history.specs.Records.{card_of}
 use Rattle.card_model.specs.Application.{CardState, next_request, is_answer}
 use Rattle.card_model.specs.CardSteps.{CardStep, Tap as TapEvent, tapped, authenticated, answered_at, after_command, command_at, after_opening, opened_within}
 use Rattle.card_model.specs.CardSteps.{with_open, with_answer, with_command, with_failure}
@@ -24,8 +25,9 @@ use Rattle.issuer_setup.specs.IssuerSetup.{Setup, shard_of}
 use Rattle.issuer_setup.proofs.Shards.{shard_of-known}
 use Rattle.line_checks.specs.Reading.{reading}
 use Rattle.shard_book.proofs.Rooms.{room-less}
-use Rattle.one_caller.specs.Room.{added_at, added_by, HaveRoom}
-use Rattle.request_text.specs.ChipText.{request_line}
+use Rattle.host_loading.specs.StoreRoom.{HaveRoom}
+use Rattle.one_caller.specs.Room.{added_at, added_by}
+use Rattle.terminal_kernel.specs.ChipText.{request_line}
 use Rattle.world_net.specs.WorldRuns.{IsIssuer}
 use Rattle.world_play.specs.declared.house.House.{House}
 use Rattle.world_play.specs.declared.player.Player.{Player}

@@ -9,7 +9,7 @@ use Rattle.key_derive.specs.CardKey.{des_keys}
 use Rattle.issuer_setup.specs.CardList.{name_of}
 use Rattle.issuer_setup.specs.IssuerSetup.{keys_of}
 use Rattle.line_checks.specs.Reading.{checked, reading}
-use Rattle.request_text.specs.ChipText.{request_line}
+use Rattle.terminal_kernel.specs.ChipText.{request_line}
 use Rattle.card_model.specs.Application.{CardState}
 use Rattle.world_play.specs.Play.{spoiled}
 use Rattle.world_play.specs.Setting.{key_set, card_info, issuer}

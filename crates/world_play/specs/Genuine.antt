@@ -3,7 +3,7 @@
 use Rattle.std.specs.Prelude.{◌≡◌, ◌≤◌, ℕ, ◌*◌, List, map}
 use Rattle.issuer_base.specs.declared.limits.TheConstants.{MAX_CARDS}
 use Rattle.card_model.specs.declared.card.TheConstants.{LAST_COUNTER}
-use Rattle.one_caller.specs.Books.{histories_of as book_histories}
+use Rattle.host_loading.specs.Books.{histories_of as book_histories}
 use Rattle.world_net.specs.declared.event.Event.{Event}
 use Rattle.world_net.specs.WorldState.{WorldState, histories_of}
 use Rattle.world_net.specs.WorldRuns.{IsGenuineRun}

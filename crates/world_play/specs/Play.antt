@@ -17,8 +17,8 @@ use Rattle.issuer_setup.specs.IssuerSetup.{Setup, shard_of}
 use Rattle.line_checks.specs.Reading.{reading}
 use Rattle.shard_book.specs.Answering.{is_store_fault}
 use Rattle.card_history.specs.declared.card_view.CardView.{CardView}
-use Rattle.request_text.specs.ChipText.{request_line}
-use Rattle.one_caller.specs.Books.{Book, histories_of}
+use Rattle.terminal_kernel.specs.ChipText.{request_line}
+use Rattle.host_loading.specs.Books.{ShardBook, histories_of}
 use Rattle.one_caller.specs.Turns.{Turn}
 use Rattle.card_history.specs.CardViews.{card_shown}
 use Rattle.world_net.specs.Fate.{fate_of}
@@ -58,7 +58,7 @@ with_tap tally (Some request) = record tally { taps = tally.taps + 1 }
 -- a card with its requests and reply, the books of the host, and the counts so far
 pub record Stage : Type 0 where
   pub player : Player
-  pub books : List Book
+  pub books : List ShardBook
   pub tally : Summary
 
 -- a request with the last bit of its cryptogram changed
@@ -66,7 +66,7 @@ abbrev pub spoiled : Parts → Parts
 spoiled request = record request { ac = slice_set request.ac 7 (bit_xor (slice_index request.ac 7) 0x01) }
 
 -- the stage after an answer
-abbrev pub answered : Stage → Answer → List Book → Stage
+abbrev pub answered : Stage → Answer → List ShardBook → Stage
 answered stage answer books = record {
   player = record stage.player { reply = reply_in answer };
   books = books;
@@ -76,7 +76,7 @@ answered stage answer books = record {
 -- a line is answered, and no store fails
 pub record IsAnswered (setup : Setup) (line : List ℕ) (before after : Stage) : Type 0 where
   pub answer : Answer
-  pub books : List Book
+  pub books : List ShardBook
   pub turn : Turn setup before.books (reading setup line) answer books
   pub works : is_store_fault answer ≡ false
   pub after_is : after ≡ answered before answer books
@@ -144,7 +144,7 @@ MakesAll setup step (next ∷ moves) before after =
 -- all cards, the books, and the counts so far
 pub record State : Type 0 where
   pub players : List Player
-  pub books : List Book
+  pub books : List ShardBook
   pub tally : Summary
 
 -- a card that did nothing yet
@@ -175,8 +175,8 @@ no_counts = record {
 }
 
 -- a shard without records, whose store never failed
-abbrev pub empty_book : Book
-empty_book = record { history = []; faults = 0; told = 0 }
+abbrev pub empty_book : ShardBook
+empty_book = record { history = []; faults = 0; reported = 0 }
 
 -- before the first step
 abbrev pub first_state : ℕ → State
@@ -207,7 +207,7 @@ IsAfter cards seed (suc steps) state = (before : State) × IsAfter cards seed st
     × IsStep cards seed steps before state
 
 -- what the host shows of a card
-abbrev pub shown : Setup → List Book → CardInfo → CardView
+abbrev pub shown : Setup → List ShardBook → CardInfo → CardView
 shown setup books info = card_shown (name_of info) (slice_index_or (histories_of books)
     (shard_of setup (name_of info)) [])
 

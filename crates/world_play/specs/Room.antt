@@ -6,8 +6,9 @@ use Rattle.issuer_setup.specs.IssuerSetup.{Setup}
 use Rattle.journal_rec.specs.declared.limits.TheConstants.{MOST_QUEUED_BYTES, MOST_RECORD_BYTES}
 use Rattle.card_model.specs.Application.{CardState}
 use Rattle.line_checks.specs.Reading.{reading}
-use Rattle.request_text.specs.ChipText.{request_line}
-use Rattle.one_caller.specs.Room.{added_at, added_by, HaveRoom, StoresHaveRoom}
+use Rattle.terminal_kernel.specs.ChipText.{request_line}
+use Rattle.host_loading.specs.StoreRoom.{HaveRoom, StoresHaveRoom}
+use Rattle.one_caller.specs.Room.{added_at, added_by}
 use Rattle.world_net.specs.WorldRuns.{IsIssuer}
 use Rattle.world_play.specs.declared.house.House.{House}
 use Rattle.world_play.specs.declared.moves.Move.{Move}

@@ -2,8 +2,8 @@
 ghost use Rattle.std.specs.Prelude.{◌≡◌, ◌+◌, ◌<◌, List, false};
 ghost use Rattle.line_checks.specs.Reading.{reading};
 ghost use Rattle.shard_book.specs.Answering.{is_store_fault};
-ghost use Rattle.one_caller.specs.Books.{Book};
-ghost use Rattle.one_caller.specs.Hosts.{Stand};
+ghost use Rattle.host_loading.specs.Books.{ShardBook};
+ghost use Rattle.host_loading.specs.Hosts.{Stand};
 ghost use Rattle.one_caller.specs.Room.{added_by};
 ghost use Rattle.one_caller.specs.Turns.{Turn};
 ghost use Rattle.world_play.specs.Play.{with_answer, with_tap};
@@ -25,8 +25,8 @@ impl House {
     pub(crate) fn answer(&mut self, line: &[u8]) -> Answer
         requires room { RoomFor (added_by self.old.host.issuer (reading self.old.host.issuer line.now)) self.old }
         requires counts { CountsWithin most_counted self.old.tally }
-        ensures turn { (books : List Book) → Stand self.old.host.issuer self.old.host.shards.items books
-            → (after : List Book) × Stand self.new.host.issuer self.new.host.shards.items after
+        ensures turn { (books : List ShardBook) → Stand self.old.host.issuer self.old.host.shards.items books
+            → (after : List ShardBook) × Stand self.new.host.issuer self.new.host.shards.items after
             × Turn self.old.host.issuer books (reading self.old.host.issuer line.now) result after }
         ensures works { is_store_fault result ≡ false }
         ensures room { UsesAtMost (added_by self.old.host.issuer

@@ -1,9 +1,9 @@
 //! What a run begins with: its cards, and its host over empty stores.
 ghost use Rattle.std.specs.Prelude.{◌≡◌, ◌*◌, ◌<◌, ◌≤◌, ℕ, [], length, map, replicate, slice_get, Some, IfOk};
 ghost use Rattle.std.specs.List.{range_with_len};
-ghost use Rattle.one_caller.specs.Hosts.{Stand};
-ghost use Rattle.one_caller.specs.Loading.{AreLoaded};
-ghost use Rattle.one_caller.specs.Room.{HaveRoom};
+ghost use Rattle.host_loading.specs.Hosts.{Stand};
+ghost use Rattle.host_loading.specs.Loading.{AreLoaded};
+ghost use Rattle.host_loading.specs.StoreRoom.{HaveRoom};
 ghost use Rattle.shard_book.specs.declared.replay.LoadFault.TheVariants.{NoMemory as LacksMemory};
 ghost use Rattle.store_edge.specs.RoomStores.{RoomState};
 ghost use Rattle.world_play.specs.Room.{AreEmpty, HaveRoomToLoad, IsOpened, step_room, steps_of};
@@ -15,10 +15,11 @@ use crate::player::Player;
 use crate::setting::{KEY_SET, SHARDS, card_info, issuer};
 use crate::summary::Summary;
 use card_model::Card;
+use host_loading::{HostBack, LoadFault};
 use issuer_base::{NoMemory, Suite};
 use issuer_setup::{CardInfo, Issuer};
 use key_derive::MasterCiphers;
-use one_caller::{HostBack, LoadFault, Solo};
+use one_caller::Solo;
 use std::alloc::Global;
 use store_edge::RoomStore;
 

@@ -17,7 +17,7 @@ use crate::queue_line::queue_line;
 use crate::setting::{Step, terminal_of};
 use card_model::Card;
 use issuer_base::{Answer, NoMemory, Reply, Request};
-use request_text::request_line;
+use terminal_kernel::request_line;
 
 /// A card, its request in hand, the last reply to one of its lines, and its request that is held back.
 #[derive(Drop)]

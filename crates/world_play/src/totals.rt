@@ -1,7 +1,7 @@
 //! What host and cards report at the end of a run.
 ghost use Rattle.std.specs.Prelude.{◌≡◌, ℕ, ◌<◌, List, length, sum_by, IfOk};
-ghost use Rattle.one_caller.specs.Books.{Book};
-ghost use Rattle.one_caller.specs.Hosts.{Stand};
+ghost use Rattle.host_loading.specs.Books.{ShardBook};
+ghost use Rattle.host_loading.specs.Hosts.{Stand};
 ghost use Rattle.world_play.specs.Play.{ComesTo, one_if, shown};
 ghost use Rattle.world_play.specs.Reaching.{IsAt};
 
@@ -40,9 +40,9 @@ struct Shown {
 /// Counts what the host shows of its cards.
 fn count_shown(host: &Solo<RoomStore>) -> Shown
     requires { 0 < host.now.issuer.shards }
-    ensures done { (books : List Book) → Stand host.now.issuer host.now.shards.items books
+    ensures done { (books : List ShardBook) → Stand host.now.issuer host.now.shards.items books
         → result.done ≡ sum_by (λ info. (shown host.now.issuer books info).done) host.now.issuer.cards }
-    ensures halted { (books : List Book) → Stand host.now.issuer host.now.shards.items books
+    ensures halted { (books : List ShardBook) → Stand host.now.issuer host.now.shards.items books
         → result.halted ≡ sum_by (λ info. one_if (shown host.now.issuer books info).halted) host.now.issuer.cards }
 {
     let mut counts = Shown { done: 0, halted: 0 };

@@ -1,6 +1,6 @@
 -- The second method's cryptogram is the first four bytes of a MAC over the request's cryptogram and the status update.
 use Rattle.std.proofs.Common.{◌≡◌, length, take, ap, ◌∙◌, arith, rules}
-use Rattle.suite_mac.specs.SuiteMac.{mac_of}
+use Rattle.key_derive.specs.SuiteMac.{mac_of}
 use Rattle.arpc_methods.specs.Arpc.{method2}
 use Rattle.arpc_methods.proofs.Blocks.{first-four}
 use Rattle.arpc_methods.proofs.method2.Goals as goal

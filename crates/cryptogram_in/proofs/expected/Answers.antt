@@ -1,6 +1,6 @@
 -- The expected cryptogram is the MAC of the request's input under the session key.
 use Rattle.std.proofs.Common.{ap, ap₂, ◌∙◌}
-use Rattle.suite_mac.specs.SuiteMac.{mac_of}
+use Rattle.key_derive.specs.SuiteMac.{mac_of}
 use Rattle.cryptogram_in.specs.Cryptogram.{cryptogram_under}
 use Rattle.cryptogram_in.proofs.expected.Goals as goal
 

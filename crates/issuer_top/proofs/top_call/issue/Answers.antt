@@ -1,8 +1,8 @@
 -- How the run ended, that it is done where all is in order, and the status of a DOL that is filled and of a PIN that is
 -- changed.
-use Rattle.run_endings.proofs.InOrder.{completes}
-use Rattle.run_commands.proofs.FillingSteps.{fills}
-use Rattle.run_commands.proofs.PinSteps.{pins}
+use Rattle.issuer_top.proofs.InOrder.{completes}
+use Rattle.issuer_top.proofs.FillingSteps.{fills}
+use Rattle.issuer_top.proofs.PinSteps.{pins}
 use Rattle.issuer_top.proofs.top_call.issue.Goals as goal
 
 pub returns : goal.returns

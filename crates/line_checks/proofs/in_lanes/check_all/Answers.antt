@@ -5,9 +5,8 @@ use Rattle.std.proofs.lemmas.List.{drop-drop, drop-set-lt, get_or-map, length-ma
 use Rattle.std.proofs.lemmas.Slice.Zip.{AllZip-long}
 use Rattle.std.specs.List.{AllZip}
 use Rattle.issuer_base.specs.declared.answer.Refusal.{Refusal}
-use Rattle.cryptogram_lanes.specs.Checks.{DesCheck}
-use Rattle.cryptogram_lanes.specs.Batch.{right_session}
-use Rattle.line_checks.specs.declared.sought.Sought.{Sought}
+use Rattle.cryptogram_in.specs.Checks.{DesCheck, right_session}
+use Rattle.line_checks.specs.declared.looked_up.LookedUp.{LookedUp}
 use Rattle.line_checks.specs.LookedUp.{IsReady, IsCheckOf, IsLookedUpAgain}
 use Rattle.line_checks.proofs.Again.{same-from, zip-at, zip_more}
 use Rattle.line_checks.proofs.in_lanes.check_all.Goals as goal
@@ -27,8 +26,8 @@ pub loop-i-preserved : goal.loop-i-preserved
 loop-i-preserved c =
     let issuer = c.args.issuer.now in
     let i : ℕ = c.loop-i.i in
-    let before : List (Result Sought Refusal) = c.args.found.now in
-    let now : List (Result Sought Refusal) = c.loop-i.found in
+    let before : List (Result LookedUp Refusal) = c.args.found.now in
+    let now : List (Result LookedUp Refusal) = c.loop-i.found in
     let new = c.keep_verdict.new.found in
     let old = c.index-found-i.result in
     let invariant = c.loop-i.invariant in

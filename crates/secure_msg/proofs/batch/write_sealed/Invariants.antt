@@ -1,7 +1,7 @@
 -- The sealed commands so far are written, the chain is at the last one's MAC, and the remaining ones still fit.
 use Rattle.std.proofs.Common.{◌≡◌, ◌+◌, ℕ, List, [], length, drop, sum_by}
 use Rattle.issuer_base.specs.declared.request.Suite.{Suite}
-use Rattle.suite_mac.specs.SuiteRun.{IsRun}
+use Rattle.key_derive.specs.SuiteRun.{IsRun}
 use Rattle.issuer_base.specs.ScriptTemplate.{sealed_size}
 use Rattle.secure_msg.proofs.Batches.{Writes}
 use Rattle.secure_msg.proofs.batch.write_sealed.Given as goal

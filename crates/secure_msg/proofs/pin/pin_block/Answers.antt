@@ -1,6 +1,6 @@
 -- The block packs its nibbles.
 use Rattle.std.proofs.Common.{ap, ◌∙◌}
-use Rattle.master_keys.specs.Digits.{packed}
+use Rattle.key_derive.specs.Digits.{packed}
 use Rattle.secure_msg.specs.Pins.{pin_nibbles, pin_block}
 use Rattle.secure_msg.proofs.pin.pin_block.Goals as goal
 

@@ -1,6 +1,6 @@
 -- A PIN's digits fit into the block, and are written over fillers.
 use Rattle.std.proofs.Common.{arith, subst, sym}
-use Rattle.master_keys.proofs.Nibbles.{AreNibbles}
+use Rattle.key_derive.proofs.Nibbles.{AreNibbles}
 use Rattle.secure_msg.proofs.PinBlocks.{length-pin, nibbles-written, AreNibbles-block}
 use Rattle.secure_msg.proofs.pin.pin_nibbles.Goals as goal
 

@@ -1,6 +1,6 @@
 -- The MAC of the chain and the command as it is sent is appended to it, and is the next chain.
 use Rattle.std.proofs.Common.{◌≡◌, ◌++◌, [], length, ap, ap₂, ◌∙◌, arith}
-use Rattle.suite_mac.specs.SuiteMac.{mac_of}
+use Rattle.key_derive.specs.SuiteMac.{mac_of}
 use Rattle.secure_msg.specs.Sealing.{command_mac, sealed_command}
 use Rattle.secure_msg.proofs.sealing.seal_in.Goals as goal
 

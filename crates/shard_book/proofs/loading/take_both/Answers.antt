@@ -2,7 +2,7 @@
 use Rattle.std.proofs.Common.{[], refl, sym, subst, ◌∙◌, Option, List, ℕ, IfSome}
 use Rattle.std.proofs.lemmas.Result.{IfErr-weaker, IfOk-weaker}
 use Rattle.journal_rec.specs.RecordText.{journal_text}
-use Rattle.record_store.proofs.ReadSoFar.{reads-none}
+use Rattle.journal_store.proofs.ReadSoFar.{reads-none}
 use Rattle.shard_book.specs.declared.replay.Version.TheVariants.{One}
 use Rattle.shard_book.specs.Loading.{ReadsText}
 use Rattle.shard_book.specs.Loads.{IsOnlyRead}

@@ -1,6 +1,6 @@
 -- Memory ran out before the stores were read.
 use Rattle.std.proofs.Common.{refl}
-use Rattle.record_store.proofs.ReadSoFar.{reads-none}
+use Rattle.journal_store.proofs.ReadSoFar.{reads-none}
 use Rattle.shard_book.specs.declared.replay.LoadFault.TheVariants.{NoMemory}
 use Rattle.shard_book.proofs.BothStores.{only-same}
 use Rattle.shard_book.proofs.LoadStops.{stops-read}

@@ -1,6 +1,6 @@
 -- The next bytes of the text are appended and synced.
 use Rattle.std.proofs.Common.{◌≡◌, ℕ, List, Option, take, drop, sym, subst, IfSome}
-use Rattle.record_store.proofs.ReadSoFar.{reads-none}
+use Rattle.journal_store.proofs.ReadSoFar.{reads-none}
 use Rattle.shard_book.specs.Migrating.{IsTextAfter}
 use Rattle.shard_book.specs.Versions.{IsPartOf}
 use Rattle.shard_book.proofs.Migration.{moving-none, moving-sync, moving-then, piece-given, told-appended, told-moving}

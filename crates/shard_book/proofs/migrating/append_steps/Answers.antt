@@ -1,6 +1,6 @@
 -- One more step.
 use Rattle.std.proofs.Common.{refl, ◌∙◌, arith}
-use Rattle.record_store.proofs.ReadSoFar.{reads-none}
+use Rattle.journal_store.proofs.ReadSoFar.{reads-none}
 use Rattle.shard_book.proofs.BothStores.{counts-after, counts-none, only-same, only-then}
 use Rattle.shard_book.proofs.Migration.{after-later, moving-none, moving-then}
 use Rattle.shard_book.proofs.migrating.append_steps.Goals as goal

@@ -2,7 +2,7 @@
 use Rattle.std.proofs.Common.{ℕ, List, ◌++◌, drop, refl, ap, ◌∙◌, arith, length-take}
 use Rattle.std.proofs.lemmas.List.{take-append-le}
 use Rattle.issuer_base.proofs.ManyCalls.{CountsFaults-no_call, CountsFaults-then}
-use Rattle.record_store.proofs.ReadSoFar.{reads-none, reads-then}
+use Rattle.journal_store.proofs.ReadSoFar.{reads-none, reads-then}
 use Rattle.shard_book.specs.Loading.{newlines_in}
 use Rattle.shard_book.proofs.Migration.{lines-more, lines-none}
 use Rattle.shard_book.proofs.migrating.count_newlines.Goals as goal

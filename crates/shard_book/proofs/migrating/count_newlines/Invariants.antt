@@ -2,7 +2,7 @@
 use Rattle.std.proofs.Common.{◌≡◌, ◌-◌, ◌≤◌, take, IfSome, false}
 use Rattle.issuer_base.specs.OutsideFaults.{CountsFaults}
 use Rattle.issuer_base.specs.Stores.{BothTold}
-use Rattle.record_store.specs.Images.{OnlyReads}
+use Rattle.journal_store.specs.Images.{OnlyReads}
 use Rattle.shard_book.specs.Loading.{newlines_in}
 use Rattle.shard_book.proofs.migrating.count_newlines.Given as goal
 

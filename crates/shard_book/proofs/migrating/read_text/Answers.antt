@@ -1,6 +1,6 @@
 -- A part of the first line, or of the old store.
 use Rattle.std.proofs.Common.{drop, arith, length-take}
-use Rattle.record_store.proofs.ReadSoFar.{reads-none}
+use Rattle.journal_store.proofs.ReadSoFar.{reads-none}
 use Rattle.shard_book.proofs.Migration.{line-given, old-part}
 use Rattle.shard_book.proofs.migrating.read_text.Goals as goal
 

@@ -1,7 +1,7 @@
 -- A newline after the buffer ends a line that is that of no record. Without one the remainder is a torn line.
 use Rattle.std.proofs.Common.{true, false, arith, length, subst, sym}
 use Rattle.shard_book.specs.Loading.{StopsReplay}
-use Rattle.record_store.proofs.ReadSoFar.{reads-none}
+use Rattle.journal_store.proofs.ReadSoFar.{reads-none}
 use Rattle.shard_book.proofs.Loaded.{found-as, rest-short, rest-long, stops-long}
 use Rattle.shard_book.proofs.reading.check_rest.Goals as goal
 

@@ -1,7 +1,7 @@
 -- A newline is found in the part that was read, or this part has none.
 use Rattle.std.proofs.Common.{refl, sym, arith, ◌∙◌, []}
 use Rattle.issuer_base.proofs.ManyCalls.{CountsFaults-no_call, CountsFaults-then}
-use Rattle.record_store.proofs.ReadSoFar.{reads-none, reads-then}
+use Rattle.journal_store.proofs.ReadSoFar.{reads-none, reads-then}
 use Rattle.shard_book.proofs.Loaded.{ahead-there, none-there, passed-none, passed-part, passed-all, found-part}
 use Rattle.shard_book.proofs.reading.has_newline.Goals as goal
 

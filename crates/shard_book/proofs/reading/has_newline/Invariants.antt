@@ -3,7 +3,7 @@ use Rattle.std.proofs.Common.{◌≡◌, ◌-◌, ◌≤◌, take, drop, IfSome,
 use Rattle.issuer_base.specs.OutsideFaults.{CountsFaults}
 use Rattle.issuer_base.specs.Stores.{BothTold}
 use Rattle.journal_rec.specs.RecordText.{IsUnbroken}
-use Rattle.record_store.specs.Images.{OnlyReads}
+use Rattle.journal_store.specs.Images.{OnlyReads}
 use Rattle.shard_book.proofs.reading.has_newline.Given as goal
 
 abbrev pub invariant-parts : goal.invariant-parts

@@ -1,6 +1,6 @@
 -- The records of a store are replayed, and the remainder is checked.
 use Rattle.std.proofs.Common.{length}
-use Rattle.record_store.proofs.ReadSoFar.{reads-then}
+use Rattle.journal_store.proofs.ReadSoFar.{reads-then}
 use Rattle.shard_book.proofs.Loaded.{reads-all, rest-step, rest-stops}
 use Rattle.shard_book.proofs.reading.take_text.Goals as goal
 

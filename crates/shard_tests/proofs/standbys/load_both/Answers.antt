@@ -1,6 +1,6 @@
 -- The shards that were loaded are the issuer's.
 use Rattle.std.proofs.Common.{rules}
-use Rattle.one_caller.proofs.Loads.{loaded-are}
+use Rattle.host_loading.proofs.Loads.{loaded-are}
 use Rattle.shard_tests.proofs.standbys.load_both.Goals as goal
 
 pub returns-in-Ok-clause-shards : goal.returns-in-Ok-clause-shards

@@ -3,7 +3,7 @@ use Rattle.std.proofs.Common.{◌≡◌, ◌/◌, [], rules}
 use Rattle.std.proofs.lemmas.List.Elements.{All-push}
 use Rattle.shared_callers.specs.OneLane.{places_in}
 use Rattle.shared_callers.specs.Parts.{lines_of, texts_of}
-use Rattle.shared_callers.specs.declared.half.TheConstants.{HALF_LINES}
+use Rattle.shared_callers.specs.declared.half_block.TheConstants.{HALF_LINES}
 use Rattle.shared_callers.specs.declared.lane.LaneRoom.{LaneRoom}
 use Rattle.shared_callers.specs.declared.part.Part.{Part}
 use Rattle.shared_callers.proofs.load.take_room.Goals as goal

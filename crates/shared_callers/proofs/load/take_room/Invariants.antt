@@ -2,7 +2,7 @@
 use Rattle.std.proofs.Common.{◌≡◌, ◌≤◌, ◌/◌, [], All, vec_len, vec_capacity}
 use Rattle.shared_callers.specs.OneLane.{places_in}
 use Rattle.shared_callers.specs.Parts.{lines_of, texts_of}
-use Rattle.shared_callers.specs.declared.half.TheConstants.{HALF_LINES}
+use Rattle.shared_callers.specs.declared.half_block.TheConstants.{HALF_LINES}
 use Rattle.shared_callers.proofs.load.take_room.Given as goal
 
 abbrev pub invariant-loop : goal.invariant-loop

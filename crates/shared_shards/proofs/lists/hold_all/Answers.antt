@@ -1,7 +1,7 @@
 -- One shard more is held, and counted.
 use Rattle.std.proofs.Common.{rules, ◌≡◌, ◌++◌, ◌∷◌, List, map, reverse, subst}
 use Rattle.shard_book.specs.declared.shard.Shard.{Shard}
-use Rattle.shared_shards.specs.declared.held.HeldShard.{HeldShard}
+use Rattle.shared_shards.specs.declared.locked_shard.LockedShard.{LockedShard}
 use Rattle.shared_shards.proofs.ListLemmas.{next-ahead, held-next, counts-next}
 use Rattle.shared_shards.proofs.lists.hold_all.Goals as goal
 
@@ -9,12 +9,12 @@ pub loop-shard-preserved : goal.loop-shard-preserved
 loop-shard-preserved g c =
     let shards = c.args.shards.items in
     let held = c.loop-shard.lists.held.items in
-    let next : HeldShard _ g.S.Store = record { shard = c.in-Some.shard } in
+    let next : LockedShard _ g.S.Store = record { shard = c.in-Some.shard } in
     let left = reverse c.pop.new.self.items in
     let ahead : reverse c.loop-shard.ahead.items ≡ next.shard ∷ left =
     next-ahead c.loop-shard.ahead.items c.pop.new.self.items next.shard (rw c.in-Some.is at c.pop.ensures.items) in
-    let all : map (λ (held : HeldShard _ g.S.Store). held.shard) held ++ next.shard ∷ left ≡ shards =
-    subst (λ (ahead : List (Shard _ g.S.Store)). map (λ (held : HeldShard _ g.S.Store). held.shard) held ++ ahead ≡ shards) ahead
+    let all : map (λ (held : LockedShard _ g.S.Store). held.shard) held ++ next.shard ∷ left ≡ shards =
+    subst (λ (ahead : List (Shard _ g.S.Store)). map (λ (held : LockedShard _ g.S.Store). held.shard) held ++ ahead ≡ shards) ahead
     c.loop-shard.invariant.all in
     record {
       all = rw c.push_reserved-in-Some.ensures.items (held-next shards held next left all);

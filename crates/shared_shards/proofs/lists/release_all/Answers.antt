@@ -2,7 +2,7 @@
 use Rattle.std.proofs.Common.{rules, ◌≡◌, ◌+◌, ◌++◌, ◌∷◌, [], List, map, reverse, refl, sym, ap, ◌∙◌}
 use Rattle.std.proofs.Common.{append_assoc}
 use Rattle.std.proofs.lemmas.List.{reverse-append}
-use Rattle.shared_shards.specs.declared.held.HeldShard.{HeldShard}
+use Rattle.shared_shards.specs.declared.locked_shard.LockedShard.{LockedShard}
 use Rattle.shared_shards.proofs.ListLemmas.{map-push}
 use Rattle.shared_shards.proofs.lists.release_all.Goals as goal
 
@@ -19,7 +19,7 @@ moved f whole left x y out longer whole_is same longer_is =
 
 pub loop-shard-preserved : goal.loop-shard-preserved
 loop-shard-preserved g c = record {
-  all = moved (λ (held : HeldShard _ g.S.Store). held.shard) c.loop-shard.held.items c.pop.new.self.items c.in-Some.field-0 c.in-Some.field-0.shard
+  all = moved (λ (held : LockedShard _ g.S.Store). held.shard) c.loop-shard.held.items c.pop.new.self.items c.in-Some.field-0 c.in-Some.field-0.shard
       c.loop-shard.shards.items c.push_reserved.new.self.items (rw c.in-Some.is at c.pop.ensures.items) refl
       c.push_reserved.ensures.items
       ∙ c.loop-shard.invariant.all;

@@ -5,7 +5,7 @@ use Rattle.issuer_base.specs.declared.command.Command.{Command}
 use Rattle.issuer_base.specs.declared.entry.Entry.{Entry}
 use Rattle.issuer_base.specs.declared.entry.Entry.TheVariants.{Queued}
 use Rattle.card_history.specs.LegalRecords.{IsLegal}
-use Rattle.card_history.specs.Records.{named}
+use Rattle.issuer_base.specs.CardNames.{named}
 use Rattle.line_checks.proofs.Numbers.{number-within}
 use Rattle.shard_book.specs.Grounds.{grounds_of}
 use Rattle.world_model.specs.Replaying.{with_entry}

@@ -1,7 +1,7 @@
 -- The host stands for books without records.
 use Rattle.std.proofs.Common.{replicate, ap, sym, subst, Some}
 use Rattle.issuer_setup.specs.IssuerSetup.{Setup}
-use Rattle.one_caller.specs.Hosts.{Stand}
+use Rattle.host_loading.specs.Hosts.{Stand}
 use Rattle.world_play.specs.Play.{empty_book}
 use Rattle.world_play.proofs.EmptyBooks.{opened}
 use Rattle.world_play.proofs.Rooms.{room-opened, works-opened}

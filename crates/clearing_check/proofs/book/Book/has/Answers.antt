@@ -2,7 +2,7 @@
 use Rattle.std.proofs.Common.{ap, ◌∙◌}
 use Rattle.std.specs.Prelude.{is_some}
 use Rattle.std.specs.List.{list_any}
-use Rattle.filed_records.specs.Records.{has_atc}
+use Rattle.clearing_check.specs.Records.{has_atc}
 use Rattle.clearing_check.proofs.Finding.{is_some-find}
 use Rattle.clearing_check.proofs.book.Book.has.Goals as goal
 

@@ -1,7 +1,7 @@
 -- A host over the shards that were loaded, or the stores come back.
 use Rattle.std.proofs.Common.{inl, inr, rules, sym, ◌∙◌}
 use Rattle.std.proofs.lemmas.Result.{MatchResult-weaker}
-use Rattle.one_caller.proofs.Loads.{none-loaded, none-read}
+use Rattle.host_loading.proofs.Loads.{none-loaded, none-read}
 use Rattle.host_calls.proofs.host.Host.load.Goals as goal
 
 pub returns-in_default-clause-stopped : goal.returns-in_default-clause-stopped

@@ -2,7 +2,7 @@
 use Rattle.std.proofs.Common.{inl, inr, rules, sym, ◌∙◌}
 use Rattle.std.proofs.lemmas.Result.{MatchResult-weaker}
 use Rattle.shard_book.specs.declared.replay.LoadFault.TheVariants.{NoMemory}
-use Rattle.one_caller.proofs.Loads.{come-together, none-loaded, none-read}
+use Rattle.host_loading.proofs.Loads.{come-together, none-loaded, none-read}
 use Rattle.host_calls.proofs.host.Host.load_together.Goals as goal
 
 pub returns-in_default-clause-stopped : goal.returns-in_default-clause-stopped

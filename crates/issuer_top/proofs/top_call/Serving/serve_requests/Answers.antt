@@ -1,11 +1,11 @@
 -- How a run ends that came to its request file.
 use Rattle.std.proofs.Common.{refl, ◌∙◌, subst}
 use Rattle.line_serving.specs.Hosts.{HasServed}
-use Rattle.run_endings.specs.Opening.{GivesInput}
+use Rattle.issuer_top.specs.Opening.{GivesInput}
 use Rattle.line_blocks.proofs.ServingSteps.{AnswersAll}
-use Rattle.run_endings.proofs.EndingSteps.{gives_input}
+use Rattle.issuer_top.proofs.EndingSteps.{gives_input}
 use Rattle.issuer_top.proofs.ServingEnds.{ends_unserved, ends_no_requests, ends_serving}
-use Rattle.run_endings.proofs.Statuses.{ends-as}
+use Rattle.issuer_top.proofs.Statuses.{ends-as}
 use Rattle.issuer_top.proofs.top_call.Serving.serve_requests.Goals as goal
 
 pub returns-in-Err : goal.returns-in-Err

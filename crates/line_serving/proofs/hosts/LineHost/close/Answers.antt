@@ -1,6 +1,6 @@
 -- What either host leaves.
 use Rattle.std.proofs.Common.{sym, subst}
-use Rattle.host_closing.specs.Leaving.{LeavesLoaded}
+use Rattle.line_serving.specs.Leaving.{LeavesLoaded}
 use Rattle.line_serving.specs.Hosts.{callers_of, IsReady}
 use Rattle.desk_host.specs.SeenStores.{journals_seen}
 use Rattle.line_serving.specs.declared.hosts.LineHost.{LineHost}

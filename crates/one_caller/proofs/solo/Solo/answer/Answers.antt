@@ -14,18 +14,19 @@ use Rattle.line_checks.specs.AtHand.{IsRequestAtHand}
 use Rattle.line_checks.specs.LookedUp.{IsLookUp}
 use Rattle.line_checks.specs.Reading.{checked, reading}
 use Rattle.line_checks.specs.declared.checked.CheckedRequest.{CheckedRequest}
-use Rattle.line_checks.specs.declared.sought.Sought.{Sought}
-use Rattle.line_checks.specs.declared.sought.Sought.TheVariants.{Request as IsRequest}
-use Rattle.line_checks.specs.declared.sought.SoughtRequest.{SoughtRequest}
+use Rattle.line_checks.specs.declared.looked_up.LookedUp.{LookedUp}
+use Rattle.line_checks.specs.declared.looked_up.LookedUp.TheVariants.{Request as IsRequest}
+use Rattle.line_checks.specs.declared.looked_up.LookedUpRequest.{LookedUpRequest}
 use Rattle.line_checks.proofs.LookUps.{carried}
 use Rattle.line_checks.proofs.Numbers.{number-within}
-use Rattle.row_core.specs.Replying.{reply_to}
+use Rattle.shard_book.specs.Replying.{reply_to}
 use Rattle.shard_book.specs.declared.shard.Shard.{Shard}
 use Rattle.shard_book.specs.Answering.{AnswersClaimed, is_store_fault}
 use Rattle.shard_book.proofs.Adopted.{checked-own}
-use Rattle.one_caller.specs.Books.{Book}
-use Rattle.one_caller.specs.Hosts.{AreShards, Stand}
-use Rattle.one_caller.specs.Room.{added_at, added_by, HaveRoom}
+use Rattle.host_loading.specs.Books.{ShardBook}
+use Rattle.host_loading.specs.Hosts.{AreShards, Stand}
+use Rattle.host_loading.specs.StoreRoom.{HaveRoom}
+use Rattle.one_caller.specs.Room.{added_at, added_by}
 use Rattle.one_caller.specs.Runs.{LeaveBetween}
 use Rattle.one_caller.specs.Turns.{Turn}
 use Rattle.one_caller.proofs.OneShard.{IsCalled, card-at_home, shards-after, turn-after, crash-after, leave-uncalled}
@@ -49,10 +50,10 @@ passes issuer request found its =
     subst (λ (request : Request). checked issuer request ≡ Ok (Decide found.request)) (sym (checked-own issuer request found.request (sym its))) (sym its)
 
 -- what a line asks whose look-up gave this request
-asks : (issuer : Setup) (line : List ℕ) (found : Result Sought Refusal) (field : Sought) (sought : SoughtRequest) → found ≡ Ok field → field ≡ IsRequest sought
+asks : (issuer : Setup) (line : List ℕ) (found : Result LookedUp Refusal) (field : LookedUp) (sought : LookedUpRequest) → found ≡ Ok field → field ≡ IsRequest sought
     → IsLookUp issuer line found → reading issuer line ≡ checked issuer sought.request
 asks issuer line found field sought is field_is looked_up =
-    carried issuer line sought.request (subst (IsLookUp issuer line) (is ∙ ap (λ (field : Sought). Ok field) field_is) looked_up).0
+    carried issuer line sought.request (subst (IsLookUp issuer line) (is ∙ ap (λ (field : LookedUp). Ok field) field_is) looked_up).0
 
 -- a request that passed its check is at hand
 at-hand : (issuer : Setup) (result : Result CheckedRequest Refusal) (found : CheckedRequest) → result ≡ Ok found → IfOk result (IsRequestAtHand issuer)
@@ -91,9 +92,9 @@ returns-in-Ok-Order-clause-turn g c line looked_up =
     let host = c.args.self.now in
     let new = c.order.new.self in
     let field_is = rw c.in-Ok-Order.is at c.in-Ok-Order.field-0-is in
-    let its = subst (IsLookUp host.issuer line) (c.in-Ok-Order.is ∙ ap (λ (sought : Sought). Ok sought) field_is) looked_up in
-    subst (λ (says : Result Asked Refusal). (books : List Book) → Stand host.issuer host.shards.items books
-    → (after : List Book) × Stand new.issuer new.shards.items after × Turn host.issuer books says c.order.result after)
+    let its = subst (IsLookUp host.issuer line) (c.in-Ok-Order.is ∙ ap (λ (sought : LookedUp). Ok sought) field_is) looked_up in
+    subst (λ (says : Result Asked Refusal). (books : List ShardBook) → Stand host.issuer host.shards.items books
+    → (after : List ShardBook) × Stand new.issuer new.shards.items after × Turn host.issuer books says c.order.result after)
     (sym its.0) c.order.ensures.turn
 
 pub returns-in-Err-clause-crash : goal.returns-in-Err-clause-crash
@@ -154,18 +155,18 @@ returns-clause-turn g c line looked_up =
     let host = c.args.self.now in
     let kept = c.keep.new.self in
     let new = slice_set host.shards.items c.home-shard.result c.answer.new.self in
-    subst (λ (says : Result Asked Refusal). (books : List Book) → Stand host.issuer host.shards.items books
-    → (after : List Book) × Stand kept new after × Turn host.issuer books says c.answer.result after)
+    subst (λ (says : Result Asked Refusal). (books : List ShardBook) → Stand host.issuer host.shards.items books
+    → (after : List ShardBook) × Stand kept new after × Turn host.issuer books says c.answer.result after)
     (asked g after line looked_up)
-    (subst (λ (issuer : Setup). (books : List Book) → Stand issuer host.shards.items books
-    → (after : List Book) × Stand kept new after × Turn issuer books (Ok (Decide c.in-Ok.found.request)) c.answer.result after)
+    (subst (λ (issuer : Setup). (books : List ShardBook) → Stand issuer host.shards.items books
+    → (after : List ShardBook) × Stand kept new after × Turn issuer books (Ok (Decide c.in-Ok.found.request)) c.answer.result after)
     c.keep.ensures (turn-after (are-kept _ _ _ c.keep.ensures c.args.self.now.are_shards) (call g after)))
 
 pub returns-clause-crash : goal.returns-clause-crash
 returns-clause-crash g c =
     let after = (goal.at.returns-clause-crash g c).After-answer in
     let host = c.args.self.now in
-    subst (λ (issuer : Setup). (books : List Book) → Stand issuer host.shards.items books
+    subst (λ (issuer : Setup). (books : List ShardBook) → Stand issuer host.shards.items books
     → LeaveBetween issuer books books host.shards.items (slice_set host.shards.items c.home-shard.result c.answer.new.self))
     c.keep.ensures (crash-after (are-kept _ _ _ c.keep.ensures c.args.self.now.are_shards) (call g after))
 

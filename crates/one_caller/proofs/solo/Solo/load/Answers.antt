@@ -1,8 +1,8 @@
 -- A host whose shards were loaded.
 use Rattle.std.proofs.Common.{rules, ap, sym, ◌∙◌}
 use Rattle.issuer_setup.specs.IssuerSetup.{Setup}
-use Rattle.one_caller.proofs.Loads.{loaded-are, none-loaded, none-read}
-use Rattle.one_caller.proofs.Rooms.{room-loaded}
+use Rattle.host_loading.proofs.Loads.{loaded-are, none-loaded, none-read}
+use Rattle.host_loading.proofs.StoreRooms.{room-loaded}
 use Rattle.one_caller.proofs.solo.Solo.load.Goals as goal
 
 pub invariant_of-result-clause-are_shards : goal.invariant_of-result-clause-are_shards

@@ -7,11 +7,12 @@ use Rattle.line_checks.proofs.Orders.{order-card}
 use Rattle.line_checks.specs.AtHand.{order_asked}
 use Rattle.shard_book.specs.Answering.{is_store_fault}
 use Rattle.shard_book.specs.Room.{UsesRoom}
-use Rattle.one_caller.specs.Room.{added_at, most_asked, HaveRoom}
+use Rattle.host_loading.specs.StoreRoom.{HaveRoom}
+use Rattle.one_caller.specs.Room.{added_at, most_asked}
 use Rattle.one_caller.specs.Turns.{card_asked, AnswersAsked}
 use Rattle.one_caller.proofs.OneShard.{IsCalled, card-at_home, shards-after, turn-after, crash-after}
 use Rattle.one_caller.proofs.Orders.{order-asked_card, order-answers, order-most}
-use Rattle.one_caller.proofs.Places.{write-same}
+use Rattle.host_loading.proofs.Places.{write-same}
 use Rattle.one_caller.proofs.Rooms.{room-after}
 use Rattle.one_caller.proofs.solo.Solo.order.Given.{Over}
 use Rattle.one_caller.proofs.solo.Solo.order.Goals.{After-order}

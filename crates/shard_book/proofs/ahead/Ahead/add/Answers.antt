@@ -4,7 +4,7 @@ use Rattle.std.proofs.lemmas.Slice.Zip.{all_zipped_more}
 use Rattle.std.specs.List.{AllZip}
 use Rattle.issuer_base.specs.declared.answer.Refusal.{Refusal}
 use Rattle.issuer_base.specs.declared.entry.Entry.{Entry}
-use Rattle.line_checks.specs.declared.sought.Sought.{Sought}
+use Rattle.line_checks.specs.declared.looked_up.LookedUp.{LookedUp}
 use Rattle.shard_book.specs.ReadAhead.{ReadAhead, IsLookedUp}
 use Rattle.shard_book.proofs.ahead.Ahead.add.Goals as goal
 
@@ -12,7 +12,7 @@ pub returns-clause-found : goal.returns-clause-found
 returns-clause-found c its =
     let issuer = c.args.issuer.now in
     let entries : List Entry = c.self.inside.entries.items in
-    let found : List (Result Sought Refusal) = c.self.inside.found.items in
+    let found : List (Result LookedUp Refusal) = c.self.inside.found.items in
     let before : AllZip (IsLookedUp issuer) entries found =
     subst (λ (ahead : ReadAhead). AllZip (IsLookedUp issuer) ahead.entries ahead.found) (sym c.self.view_is) its in
     subst (λ (entries : List Entry). AllZip (IsLookedUp issuer) entries c.push_reserved.new.self.items) (sym c.push_reserved-2.ensures.items)

@@ -1,6 +1,6 @@
 -- A command is a valid successor if its card is one of the shard's and the queue accepts it.
 use Rattle.std.proofs.Common.{sym, subst, ◌∙◌}
-use Rattle.card_history.specs.Records.{CardName, named}
+use Rattle.issuer_base.specs.CardNames.{CardName, named}
 use Rattle.card_history.specs.Scripts.{waiting, scripts_of}
 use Rattle.script_queue.specs.CommandQueue.{TakesOneMore}
 use Rattle.shard_book.proofs.Adopted.{home-found, card-at_home}

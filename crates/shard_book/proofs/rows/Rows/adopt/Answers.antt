@@ -2,7 +2,7 @@
 use Rattle.std.proofs.Common.{◌↔◌, [], ◌∷◌, ◌++◌, ap, subst, ◌∙◌, Ok, IsTrue}
 use Rattle.issuer_base.specs.declared.entry.Entry.{Entry}
 use Rattle.card_history.specs.LegalRecords.{IsLegal}
-use Rattle.line_checks.specs.declared.sought.Sought.TheVariants.{Order}
+use Rattle.line_checks.specs.declared.looked_up.LookedUp.TheVariants.{Order}
 use Rattle.shard_book.specs.ReadAhead.{IsLookedUp}
 use Rattle.shard_book.specs.Versions.{grounds_in, window_in}
 use Rattle.shard_book.specs.ShardRows.{RowsStandFor}

@@ -7,7 +7,7 @@ use Rattle.std.proofs.lemmas.Slice.Zip.{AllZip-long}
 use Rattle.issuer_base.specs.declared.answer.Refusal.{Refusal}
 use Rattle.issuer_base.specs.declared.entry.Entry.{Entry}
 use Rattle.card_history.specs.LegalRecords.{IsLegal}
-use Rattle.line_checks.specs.declared.sought.Sought.{Sought}
+use Rattle.line_checks.specs.declared.looked_up.LookedUp.{LookedUp}
 use Rattle.line_checks.proofs.Again.{zip-at}
 use Rattle.shard_book.specs.ReadAhead.{IsLookedUp}
 use Rattle.shard_book.specs.Versions.{bad_record, grounds_in}
@@ -30,10 +30,10 @@ adopt-requires-clause-found c =
     let ahead = c.args.ahead.now in
     let i : ℕ = c.loop-i.i in
     let entry : Entry = c.entry-item.result in
-    let found : Result Sought Refusal = c.index-found-i.result in
+    let found : Result LookedUp Refusal = c.index-found-i.result in
     let entry_is : entry ≡ get_or ahead.entries i entry = c.entry-item.is ∙ ap (λ (es : List Entry). get_or es i entry) c.entries-entry-items.ensures in
     let found_is : found ≡ get_or ahead.found i found =
-    c.index-found-i.is ∙ ap (λ (fs : List (Result Sought Refusal)). get_or fs i found) c.found-found.ensures in
+    c.index-found-i.is ∙ ap (λ (fs : List (Result LookedUp Refusal)). get_or fs i found) c.found-found.ensures in
     subst (IsLookedUp issuer entry) (sym found_is)
     (subst (λ (entry : Entry). IsLookedUp issuer entry (get_or ahead.found i found)) (sym entry_is)
     (zip-at (IsLookedUp issuer) ahead.entries ahead.found i entry found c.requires.found (omega (arith, ap length c.entries-entry-items.ensures))))

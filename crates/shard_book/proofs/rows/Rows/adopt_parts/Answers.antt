@@ -1,7 +1,7 @@
 -- One more part was replayed.
 use Rattle.std.proofs.Common.{◌≡◌, refl, sym, subst, ◌∙◌, arith, Option, IfSome, List, ℕ, length, take, drop}
 use Rattle.issuer_base.proofs.ManyCalls.{CountsFaults-no_call, CountsFaults-then}
-use Rattle.record_store.proofs.ReadSoFar.{reads-none, reads-then}
+use Rattle.journal_store.proofs.ReadSoFar.{reads-none, reads-then}
 use Rattle.journal_rec.specs.RecordText.{IsUnbroken}
 use Rattle.shard_book.proofs.Loaded.{front-step, stops-step, rest-none}
 use Rattle.shard_book.specs.Loading.{IsWithin}

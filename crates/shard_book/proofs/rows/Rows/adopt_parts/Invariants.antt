@@ -3,7 +3,7 @@ use Rattle.std.proofs.Common.{◌≡◌, ◌-◌, List, false}
 use Rattle.issuer_base.specs.declared.entry.Entry.{Entry}
 use Rattle.issuer_base.specs.OutsideFaults.{CountsFaults}
 use Rattle.issuer_base.specs.Stores.{BothTold}
-use Rattle.record_store.specs.Images.{OnlyReads}
+use Rattle.journal_store.specs.Images.{OnlyReads}
 use Rattle.shard_book.specs.Loading.{IsWithin, ReadsFront}
 use Rattle.shard_book.specs.ShardRows.{AreRowsOf, AreSame}
 use Rattle.shard_book.proofs.rows.Rows.adopt_parts.Given as goal

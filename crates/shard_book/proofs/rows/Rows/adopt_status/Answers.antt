@@ -1,7 +1,7 @@
 -- A status is a valid successor if its card is one of the shard's.
 use Rattle.std.proofs.Common.{[], ◌∷◌, ◌++◌, sym, subst, ◌∙◌}
 use Rattle.issuer_base.specs.declared.entry.Entry.TheVariants.{Status}
-use Rattle.card_history.specs.Records.{CardName, named}
+use Rattle.issuer_base.specs.CardNames.{CardName, named}
 use Rattle.shard_book.specs.ShardRows.{RowsStandFor}
 use Rattle.shard_book.proofs.Adopted.{home-found}
 use Rattle.shard_book.proofs.LegalNext.{card-found}

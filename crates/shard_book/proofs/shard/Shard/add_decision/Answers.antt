@@ -38,7 +38,7 @@ returns-clause-added g c issuer card history stands known next legal =
     subst (λ (place : ℕ). IsNext card history (record { request = request; reply = reply; place = place })) (sym put.0) next in
     let rows = c.apply.ensures.applied issuer card history before known next_there refl in (
       put.0,
-      stands-with issuer number c.put_text.new.self.journal c.put_text.new.self.rows c.apply.new.self c.put_text.new.self.told
+      stands-with issuer number c.put_text.new.self.journal c.put_text.new.self.rows c.apply.new.self c.put_text.new.self.reported
           (history ++ Decided request reply ∷ []) number_is
           c.apply.ensures.same rows added,
     )

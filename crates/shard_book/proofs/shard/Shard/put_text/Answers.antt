@@ -1,9 +1,9 @@
 -- What the shard holds once the text of a record was appended, or not, and what a crash leaves meanwhile.
 use Rattle.std.proofs.Common.{ℕ, List, length, ap, sym, subst, ◌∙◌}
 use Rattle.journal_rec.specs.RecordText.{journal_text}
-use Rattle.shard_book.specs.Answering.{told_after}
+use Rattle.shard_book.specs.Answering.{reported_after}
 use Rattle.issuer_base.specs.Stores.{BothTold, HasRoom, LeavesOnly}
-use Rattle.record_store.specs.Images.{IsEitherImage}
+use Rattle.journal_store.specs.Images.{IsEitherImage}
 use Rattle.shard_book.proofs.ShardSteps.{put-tail, put-undoubted}
 use Rattle.shard_book.proofs.Rooms.{ok-has}
 use Rattle.shard_book.proofs.shard.Shard.put_text.Goals as goal
@@ -21,8 +21,8 @@ returns-clause-crash g c history tail entry its holds =
 
 pub returns-clause-undoubted : goal.returns-clause-undoubted
 returns-clause-undoubted g c none =
-    put-undoubted c.args.self.now.told c.put-written.new.self c.put-written.result c.put-written.ensures.settled
-    (ap (told_after c.args.self.now.told) (sym c.is_err.ensures.value) ∙ sym c.told_after-self.ensures ∙ none)
+    put-undoubted c.args.self.now.reported c.put-written.new.self c.put-written.result c.put-written.ensures.settled
+    (ap (reported_after c.args.self.now.reported) (sym c.is_err.ensures.value) ∙ sym c.reported_after-self.ensures ∙ none)
 
 pub returns-clause-room : goal.returns-clause-room
 returns-clause-room g c spare has =

@@ -8,7 +8,7 @@ use Rattle.issuer_base.specs.declared.answer.Refusal.TheVariants.{StoreFault}
 use Rattle.issuer_base.specs.declared.entry.Entry.{Entry}
 use Rattle.issuer_base.specs.declared.entry.Entry.TheVariants.{Queued}
 use Rattle.card_history.specs.LegalRecords.{IsLegal}
-use Rattle.card_history.specs.Records.{CardName, named}
+use Rattle.issuer_base.specs.CardNames.{CardName, named}
 use Rattle.card_history.specs.Scripts.{waiting, scripts_of}
 use Rattle.journal_rec.specs.Record.{is_record}
 use Rattle.script_queue.specs.CommandQueue.{TakesOneMore}
@@ -109,7 +109,7 @@ returns-clause-answer g c history stands =
     let holds =
     subst (λ (entry : Entry). HoldsHistory (grounds_now issuer) number c.put.new.self.journal (history ++ entry ∷ [])) c.to_entry.ensures added in (
       history ++ Queued found.pan found.psn found.command ∷ [],
-      stands-with issuer number c.put.new.self.journal c.put.new.self.rows c.push.new.self c.put.new.self.told
+      stands-with issuer number c.put.new.self.journal c.put.new.self.rows c.push.new.self c.put.new.self.reported
           (history ++ Queued found.pan found.psn found.command ∷ [])
           number_is c.push.ensures.same rows holds,
       (room g (goal.at.returns-clause-answer g c).After-put history stands, c.shard.ensures ∙ c.push.ensures.same.shard_is ∙ number_is, put.0, refl),

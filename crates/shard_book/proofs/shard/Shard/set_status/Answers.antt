@@ -6,7 +6,7 @@ use Rattle.issuer_base.specs.declared.answer.Refusal.TheVariants.{StoreFault}
 use Rattle.issuer_base.specs.declared.entry.Entry.{Entry}
 use Rattle.issuer_base.specs.declared.entry.Entry.TheVariants.{Status}
 use Rattle.card_history.specs.LegalRecords.{IsLegal}
-use Rattle.card_history.specs.Records.{CardName, named}
+use Rattle.issuer_base.specs.CardNames.{CardName, named}
 use Rattle.journal_rec.specs.Record.{is_record}
 use Rattle.shard_book.specs.Answering.{LeavesTail}
 use Rattle.shard_book.specs.Grounds.{grounds_now}
@@ -82,7 +82,7 @@ returns-clause-answer g c history stands =
     let holds =
     subst (λ (entry : Entry). HoldsHistory (grounds_now issuer) number c.put.new.self.journal (history ++ entry ∷ [])) c.to_entry.ensures added in (
       history ++ Status found.pan found.psn found.status ∷ [],
-      stands-with issuer number c.put.new.self.journal c.put.new.self.rows c.set_status.new.self c.put.new.self.told
+      stands-with issuer number c.put.new.self.journal c.put.new.self.rows c.set_status.new.self c.put.new.self.reported
           (history ++ Status found.pan found.psn found.status ∷ [])
           number_is c.set_status.ensures.same rows holds,
       (c.shard.ensures ∙ c.set_status.ensures.same.shard_is ∙ number_is, put.0, refl),

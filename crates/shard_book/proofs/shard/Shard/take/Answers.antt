@@ -62,7 +62,7 @@ returns-clause-taken g c history replica =
       put.0,
       record {
         stands =
-            stands-with issuer number c.put.new.self.journal c.put.new.self.rows c.adopt.new.self c.put.new.self.told (history ++ entry ∷ []) number_is
+            stands-with issuer number c.put.new.self.journal c.put.new.self.rows c.adopt.new.self c.put.new.self.reported (history ++ entry ∷ []) number_is
             c.adopt.ensures.same rows added;
         settled = put.1;
       },

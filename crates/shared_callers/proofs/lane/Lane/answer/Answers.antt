@@ -8,7 +8,7 @@ use Rattle.answer_text.specs.AnswerText.{printed}
 use Rattle.host_calls.specs.Passes.{claims_of, logs_of}
 use Rattle.host_calls.specs.declared.pass.Pass.{Pass}
 use Rattle.line_checks.specs.LookedUp.{IsLookUp}
-use Rattle.line_checks.specs.declared.sought.Sought.{Sought}
+use Rattle.line_checks.specs.declared.looked_up.LookedUp.{LookedUp}
 use Rattle.shared_callers.specs.DueTexts.{DueTexts}
 use Rattle.shared_callers.specs.KeptLines.{KeptLines}
 use Rattle.shared_callers.proofs.Calling.{HasCalled, called-line}
@@ -25,7 +25,7 @@ answer_line-answer-requires-clause-found g c =
     let test = c.loop-place-test.true in
     let line_is = slice_get-get_or c.args.self.now.lines.lines place [] (omega (arith, test, end)) in
     let line_there = subst (λ (lines : KeptLines). slice_get lines.lines place ≡ Some (get_or c.args.self.now.lines.lines place [])) (sym lines_are) line_is in
-    let parts = subst (λ (found : Option (Bor (Result Sought Refusal))). MatchOption found (ahead ≡ []) (λ found. ahead ≡ found.now ∷ drop 1 ahead))
+    let parts = subst (λ (found : Option (Bor (Result LookedUp Refusal))). MatchOption found (ahead ≡ []) (λ found. ahead ≡ found.now ∷ drop 1 ahead))
     c.unwrap-found.ensures c.first.ensures in (
       get_or c.args.self.now.lines.lines place [],
       (first-ahead (IsLookUp c.args.host.now.issuer) place lines _ _ ahead _ parts refl line_there c.look_ahead.ensures.ahead).0,
@@ -44,7 +44,7 @@ loop-place-preserved g c =
     let line = get_or c.args.self.now.lines.lines place [] in
     let line_is = slice_get-get_or c.args.self.now.lines.lines place [] (omega (arith, test, end)) in
     let line_there = subst (λ (lines : KeptLines). slice_get lines.lines place ≡ Some line) (sym lines_are) line_is in
-    let parts = subst (λ (found : Option (Bor (Result Sought Refusal))). MatchOption found (ahead ≡ []) (λ found. ahead ≡ found.now ∷ drop 1 ahead))
+    let parts = subst (λ (found : Option (Bor (Result LookedUp Refusal))). MatchOption found (ahead ≡ []) (λ found. ahead ≡ found.now ∷ drop 1 ahead))
     c.unwrap-found.ensures c.first.ensures in
     let its = first-ahead (IsLookUp issuer) place c.look_ahead.new.self.lines.lines line _ ahead c.remove_first.new.self parts
     c.remove_first.ensures line_there c.look_ahead.ensures.ahead in

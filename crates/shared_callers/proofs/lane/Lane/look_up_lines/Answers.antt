@@ -5,7 +5,7 @@ use Rattle.std.proofs.lemmas.List.{length-append}
 use Rattle.issuer_base.specs.declared.answer.Refusal.{Refusal}
 use Rattle.issuer_setup.specs.IssuerSetup.{Setup}
 use Rattle.line_checks.specs.LookedUp.{IsLookUp}
-use Rattle.line_checks.specs.declared.sought.Sought.{Sought}
+use Rattle.line_checks.specs.declared.looked_up.LookedUp.{LookedUp}
 use Rattle.shared_callers.proofs.LooksAhead.{look-up-is, next-ahead}
 use Rattle.shared_callers.proofs.lane.Lane.look_up_lines.Goals as goal
 
@@ -20,10 +20,10 @@ loop-index-preserved g c =
     let its = subst (λ (issuer : Setup). IsLookUp issuer line found) c.issuer.ensures
     (look-up-is c.issuer.result.now line found c.look_up-found.ensures.sought c.look_up-found.ensures.refused) in
     record {
-      ahead = subst (λ (ahead : List (Result Sought Refusal)). AllZip (IsLookUp issuer) (take (length ahead) (drop c.args.place lines)) ahead)
+      ahead = subst (λ (ahead : List (Result LookedUp Refusal)). AllZip (IsLookUp issuer) (take (length ahead) (drop c.args.place lines)) ahead)
           (sym c.add.ensures)
           (next-ahead (IsLookUp issuer) c.args.place c.loop-index.index lines line old found before.count c.line.ensures.line before.ahead its);
-      count = omega (arith, before.count, ap length c.add.ensures, length-append {A = Result Sought Refusal});
+      count = omega (arith, before.count, ap length c.add.ensures, length-append {A = Result LookedUp Refusal});
       pass = before.pass;
       lines = before.lines;
       texts = before.texts;

@@ -1,9 +1,9 @@
 -- The lanes begin without lines, or the stores come back.
 use Rattle.std.proofs.Common.{◌≡◌, ◌*◌, ◌/◌, ◌<◌, ◌≤◌, All, length, vec_len, inl, rules, sym, subst, ap, ◌∙◌}
 use Rattle.shared_shards.specs.ShardSeats.{opening_in}
-use Rattle.one_caller.proofs.Loads.{come-together, none-loaded, none-read}
+use Rattle.host_loading.proofs.Loads.{come-together, none-loaded, none-read}
 use Rattle.shared_callers.specs.Parts.{rooms_of}
-use Rattle.shared_callers.specs.declared.half.TheConstants.{HALF_LINES}
+use Rattle.shared_callers.specs.declared.half_block.TheConstants.{HALF_LINES}
 use Rattle.shared_callers.specs.declared.lane.Lane.{Lane}
 use Rattle.shared_callers.specs.declared.part.Part.{Part}
 use Rattle.shared_callers.proofs.Lists.{maps-alike}

@@ -5,7 +5,7 @@ use Rattle.turn_book.specs.declared.logs.Log.{Log}
 use Rattle.turn_book.specs.Seats.{view_of}
 use Rattle.turn_book.proofs.BeginsAndEnds.{stand-length}
 use Rattle.turn_book.proofs.LogLemmas.{heads-length}
-use Rattle.shared_shards.specs.declared.held.HeldShard.{HeldShard}
+use Rattle.shared_shards.specs.declared.locked_shard.LockedShard.{LockedShard}
 use Rattle.shared_shards.specs.declared.logs.LogHead.{LogHead}
 use Rattle.shared_shards.specs.declared.logs.LogItem.{LogItem}
 use Rattle.shared_shards.specs.ShardLogs.{StandsForLog}
@@ -19,7 +19,7 @@ release_all-requires g c =
     let seen : List (Log LogItem LogHead) = (view_of c.args.seat).seen in
     let opening : List (Log LogItem LogHead) = opening_in c.args.self in
     let long : length held.items ≡ length seen =
-    stand-length (λ (held : HeldShard _ g.S.Store) head items. StandsForLog held.shard head items) held.items seen c.close.ensures.values in
+    stand-length (λ (held : LockedShard _ g.S.Store) head items. StandsForLog held.shard head items) held.items seen c.close.ensures.values in
     let same : length seen ≡ length opening = heads-length seen opening c.requires.seat.of.heads in
     let few = c.args.self.turns.few in
     omega (arith, held.ok, long, same, few)

@@ -1,7 +1,7 @@
 -- The request is answered in its card's shard, and what the answer adds is in the shard's log.
 use Rattle.std.proofs.Common.{ℕ}
 use Rattle.card_history.specs.Records.{card_of}
-use Rattle.row_core.specs.Replying.{reply_to}
+use Rattle.shard_book.specs.Replying.{reply_to}
 use Rattle.shard_book.specs.Answering.{AnswersClaimed}
 use Rattle.turn_book.specs.Seats.{view_of}
 use Rattle.shared_shards.specs.Turned.{decided_by}

@@ -2,7 +2,7 @@
 use Rattle.std.proofs.Common.{sym, subst, ◌∙◌}
 use Rattle.turn_book.specs.declared.seat.TurnSeat.{TurnSeat}
 use Rattle.turn_book.specs.Seats.{view_of}
-use Rattle.shared_shards.specs.declared.held.HeldShard.{HeldShard}
+use Rattle.shared_shards.specs.declared.locked_shard.LockedShard.{LockedShard}
 use Rattle.shared_shards.specs.declared.logs.LogHead.{LogHead}
 use Rattle.shared_shards.specs.declared.logs.LogItem.{LogItem}
 use Rattle.shared_shards.specs.ShardSeats.{StandsIn}
@@ -23,7 +23,7 @@ leave-requires-clause-value g c =
     let called = c.args.called in
     let view = view_of c.args.seat.now in
     let added = added_in called in
-    let held : HeldShard _ _ = record { shard = called.shard } in
+    let held : LockedShard _ _ = record { shard = called.shard } in
     elim c.if-adds.branch [
       | then-adds w ↦
           let is = added-is (record_by called.call called.answer.now) _ (faults_in called.shard) (sym c.adds.ensures ∙ w.if-adds.true) in

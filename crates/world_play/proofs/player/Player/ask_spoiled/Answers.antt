@@ -3,7 +3,7 @@ use Rattle.std.proofs.Common.{◌∙◌, refl, ap}
 use Rattle.issuer_base.specs.declared.request.Parts.{Parts}
 use Rattle.one_caller.specs.Room.{added_by}
 use Rattle.line_checks.specs.Reading.{reading}
-use Rattle.request_text.specs.ChipText.{request_line}
+use Rattle.terminal_kernel.specs.ChipText.{request_line}
 use Rattle.world_play.specs.Play.{spoiled}
 use Rattle.world_play.specs.Room.{asked_bytes}
 use Rattle.world_play.proofs.Using.{less-room, uses-less, uses-none, asked-line}

@@ -1,0 +1,67 @@
+-- The first record of the ATC is certified in its place.
+use Rattle.std.proofs.Common.{List, length, set, get_or, ap, sym, ◌∙◌, subst, arith}
+use Rattle.std.specs.List.{position_or_len}
+use Rattle.clearing_check.specs.declared.filed.Filed.{Filed}
+use Rattle.clearing_check.specs.Records.{has_atc, certify, certified}
+use Rattle.std.proofs.lemmas.List.{length-set}
+use Rattle.clearing_check.specs.Inside.{AreFiled}
+use Rattle.clearing_check.specs.OpenCounts.{CountOpens}
+use Rattle.clearing_check.proofs.Opens.{numbers-certified}
+use Rattle.clearing_check.proofs.FirstPlace.{certify-at, certify-none}
+use Rattle.clearing_check.proofs.filed_records.FiledRecords.certify.Goals as goal
+
+pub invariant_of-self : goal.invariant_of-self
+invariant_of-self c =
+    let items = c.self.inside.records.items in
+    let n = c.number_of-number.result in
+    let found = c.index_mut.result.now in
+    let after = set items n (certified (get_or items n found)) in
+    let old = c.self.invariant in
+    let same = length-set items n (certified (get_or items n found)) in
+    let few = old.few in
+    let block_size = old.block_size in
+    let group_size = old.group_size in
+    let filed : AreFiled (record {
+      records = after;
+      pages = c.self.inside.pages;
+      blocks = c.certify.new.self;
+      groups = c.certify-then-number-len.new.self;
+    }) =
+    record {
+      few = omega (arith, few, same);
+      numbers = numbers-certified c.self.inside.pages items n found old.numbers;
+      block_size = c.certify.ensures.size ∙ block_size;
+      group_size = c.certify-then-number-len.ensures.size ∙ group_size;
+      blocks = subst (λ (records : List Filed). CountOpens c.certify.new.self
+          (set records n (certified (get_or records n found))))
+          c.as_slice.ensures.value (c.certify.ensures.counts found);
+      groups = subst (λ (records : List Filed). CountOpens c.certify-then-number-len.new.self
+          (set records n (certified (get_or records n found))))
+          c.as_slice-then-number-len.ensures.value (c.certify-then-number-len.ensures.counts found);
+    } in
+    subst (λ (records : List Filed). AreFiled
+    (record {
+      records = records;
+      pages = c.self.inside.pages;
+      blocks = c.certify.new.self;
+      groups = c.certify-then-number-len.new.self;
+    }))
+    (ap (λ (x : Filed). set items n (certified x)) (sym c.index_mut.ensures.value)) filed
+
+pub returns-then-number-len : goal.returns-then-number-len
+returns-then-number-len c =
+    let within = c.if-number-len.true in
+    let len = c.len.ensures in
+    let place =
+    c.number_of-number.ensures ∙ ap (position_or_len (has_atc c.args.card c.args.atc)) (sym c.self.view_is) in
+    certify-at c.args.card c.args.atc c.self.inside.records.items c.number_of-number.result c.index_mut.result.now place
+    (omega (arith, within, len)) c.index_mut.ensures.value
+    ∙ ap (certify c.args.card c.args.atc) c.self.view_is
+
+pub returns-else-number-len : goal.returns-else-number-len
+returns-else-number-len c =
+    let past = c.if-number-len.false in
+    let len = c.len.ensures in
+    let place = c.number_of-number.ensures in
+    let records = ap length c.self.view_is in
+    certify-none c.args.card c.args.atc c.args.self.now (omega (arith, past, len, place, records))

@@ -1,0 +1,7 @@
+-- The text of the totals is one line.
+use Rattle.std.proofs.Common.{codes, refl}
+use Rattle.clearing_check.proofs.OneLine.{numbers-IsLine}
+use Rattle.clearing_check.proofs.lines.write_total.Goals as goal
+
+pub returns-clause-line : goal.returns-clause-line
+returns-clause-line c = rw c.write_numbers.ensures (numbers-IsLine (codes "total") c.args.certified c.args.left refl)

@@ -1,0 +1,164 @@
+//! Records, filed for lookup by card and ATC.
+ghost use Rattle.std.specs.Prelude.{◌≡◌, ◌+◌, ◌<◌, ◌++◌, [], ◌∷◌, length, slice_get, option_map, find, count_by, IfOk, OnOk, OnErr};
+ghost use Rattle.std.specs.List.{position_or_len};
+ghost use Rattle.clearing_check.specs.Records.{has_atc, is_certified, opens, place_of, certify};
+
+use crate::atc_pages::AtcPages;
+use crate::filed::Filed;
+use crate::open_counts::{OpenCounts, is_open};
+use issuer_base::NoMemory;
+use std::alloc::Global;
+use std::marker::Model;
+
+/// How many records in a row are a group.
+const GROUP: usize = 64;
+
+/// How many groups in a row are a block.
+const GROUPS: usize = 64;
+
+/// How many records in a row are a block.
+const BLOCK: usize = GROUP * GROUPS;
+
+/// Records, filed for lookup by card and ATC.
+///
+/// A contract sees the list of the records, in the order in which they were added.
+#[derive(Drop)]
+pub struct FiledRecords {
+    records: Vec<Filed>,
+
+    /// One more than the number of the first record, for each ATC of a card.
+    pages: AtcPages,
+
+    /// How many records are open in each block of 4,096, and in each group of 64.
+    blocks: OpenCounts,
+    groups: OpenCounts,
+}
+
+impl Model for FiledRecords {
+    ghost use Rattle.std.specs.Prelude.{List};
+    ghost use Rattle.clearing_check.specs.declared.filed.Filed.{Filed};
+    ghost use Rattle.clearing_check.specs.Inside.{AreFiled};
+
+    ghost Value = { List Filed };
+
+    ghost view = { λ records. records.records.items };
+
+    ghost invariant = { λ records. AreFiled (record {
+      records = records.records.items;
+      pages = records.pages;
+      blocks = records.blocks;
+      groups = records.groups;
+    }) };
+}
+
+impl FiledRecords {
+    /// No records, with a directory of this many cards.
+    pub fn new(alloc: Global, cards: u32) -> Result<FiledRecords, NoMemory>
+        ensures { IfOk result (λ records. records ≡ []) }
+    {
+        Ok(FiledRecords {
+            records: Vec::new(alloc),
+            pages: AtcPages::new(alloc, cards)?,
+            blocks: OpenCounts::new(alloc, BLOCK),
+            groups: OpenCounts::new(alloc, GROUP),
+        })
+    }
+
+    /// Adds a record after the others.
+    pub fn push(&mut self, filed: Filed) -> Result<(), NoMemory>
+        ensures added { OnOk result (self.new ≡ self.old ++ filed ∷ []) }
+        ensures refused { OnErr result (self.new ≡ self.old) }
+    {
+        let slot = slot_after(self.records.len())?;
+        self.records.reserve(1)?;
+        self.blocks.make_room(self.records.as_slice())?;
+        self.groups.make_room(self.records.as_slice())?;
+        self.pages.set_first(filed.card, filed.atc, slot)?;
+        self.blocks.add(self.records.as_slice(), &filed);
+        self.groups.add(self.records.as_slice(), &filed);
+        self.records.push_reserved(filed);
+        Ok(())
+    }
+
+    /// The first record of this ATC of the card, in time that doesn't grow with the number of records.
+    pub fn find(&self, card: u32, atc: u16) -> Option<Filed>
+        ensures { result ≡ find (has_atc card atc) self.now }
+    {
+        self.records.get(self.number_of(card, atc)).copied()
+    }
+
+    /// Certifies the first record of this ATC of the card. A record that is certified stays certified.
+    pub fn certify(&mut self, card: u32, atc: u16)
+        ensures { self.new ≡ certify card atc self.old }
+    {
+        let number = self.number_of(card, atc);
+        if number < self.records.len() {
+            self.blocks.certify(self.records.as_slice(), number);
+            self.groups.certify(self.records.as_slice(), number);
+            self.records[number].certified = true;
+        }
+    }
+
+    /// The number of the first record of this ATC of the card, or that of all records if there is none.
+    fn number_of(&self, card: u32, atc: u16) -> usize
+        ensures { result ≡ position_or_len (has_atc card atc) self.now }
+    {
+        match self.pages.get(card, atc) {
+            0 => self.records.len(),
+            slot => slot as usize - 1,
+        }
+    }
+
+    /// Where the open record of this index is: its shard, and its index in the shard's journal. `None` exactly past the
+    /// last. This reads a count for each block before it, then for each group, and then the records of one group.
+    pub fn left(&self, index: u64) -> Option<(u8, u64)>
+        ensures { result ≡ option_map place_of (slice_get (opens self.now) index) }
+    {
+        let (block, left) = self.blocks.skip(0, index);
+        let (group, left) = self.groups.skip(block * GROUPS, left);
+        let start = (group * GROUP).min(self.records.len());
+        nth_open(&self.records[start..], left)
+    }
+
+    /// How many records are certified. This reads all records.
+    pub fn certified_count(&self) -> u64
+        ensures { result ≡ count_by is_certified self.now }
+    {
+        self.records.iter().filter(|filed| filed.certified).count() as u64
+    }
+
+    /// How many records are open. This reads all records.
+    pub fn open_count(&self) -> u64
+        ensures { result ≡ length (opens self.now) }
+    {
+        self.records.iter().filter(|filed| is_open(filed)).count() as u64
+    }
+}
+
+/// The slot of the record after this many; with 2^32 - 1 records there is none, as if memory ran out.
+fn slot_after(count: usize) -> Result<u32, NoMemory>
+    ensures slot { IfOk result (λ slot. slot ≡ count + 1) }
+    ensures few { OnOk result (count < 4_294_967_295) }
+{
+    if count < u32::MAX as usize {
+        Ok(count as u32 + 1)
+    } else {
+        Err(NoMemory)
+    }
+}
+
+/// Where the open record of this index among these records is.
+fn nth_open(records: &[Filed], index: u64) -> Option<(u8, u64)>
+    ensures { result ≡ option_map place_of (slice_get (opens records.now) index) }
+{
+    let mut left = index;
+    for filed in records {
+        if is_open(filed) {
+            if left == 0 {
+                return Some((filed.shard, filed.place));
+            }
+            left -= 1;
+        }
+    }
+    None
+}

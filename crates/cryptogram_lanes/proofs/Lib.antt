@@ -1,3 +1,0 @@
--- The laws of this crate.
-pub mod CheckParts
-pub mod Steps

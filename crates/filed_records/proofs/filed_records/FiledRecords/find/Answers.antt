@@ -1,9 +1,0 @@
--- The first record of the ATC is at its place.
-use Rattle.std.proofs.Common.{arith}
-use Rattle.std.proofs.lemmas.Option.{gets}
-use Rattle.std.proofs.lemmas.Grind.{common_steps}
-use Rattle.std.proofs.lemmas.List.Folds.{find_at}
-use Rattle.filed_records.proofs.filed_records.FiledRecords.find.Goals as goal
-
-pub returns : goal.returns
-returns c = grind (arith, common_steps, gets, find_at)

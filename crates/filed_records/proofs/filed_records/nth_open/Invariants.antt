@@ -1,7 +1,0 @@
--- The open record is among those that are left.
-use Rattle.std.proofs.Common.{◌≡◌, drop, slice_get}
-use Rattle.filed_records.specs.Records.{opens}
-use Rattle.filed_records.proofs.filed_records.nth_open.Given as goal
-
-abbrev pub invariant-loop-filed : goal.invariant-loop-filed
-invariant-loop-filed l = slice_get (opens l.records) l.index ≡ slice_get (opens (drop l.filed-index l.records)) l.left

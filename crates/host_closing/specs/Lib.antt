@@ -1,2 +1,0 @@
--- The definitions that contracts on closed hosts cite.
-pub mod Leaving

@@ -1,0 +1,444 @@
+-- How a run ends that takes a feed into journals.
+use Rattle.std.proofs.Common.{◌≡◌, ℕ, ◌<◌, Bool, true, false, List, [], length, map, Option, Some, Err}
+use Rattle.std.proofs.Common.{inl, inr, refl, sym, ap, subst, ◌∙◌, arith}
+use Rattle.std.specs.Prelude.{slice_get, IfSome, MatchBool, is_some}
+use Rattle.std.specs.Option.{option_map}
+use Rattle.std.proofs.lemmas.Option.{slice_get-map, slice_get_within}
+use Rattle.std.specs.Io.KnownBytes.{Appends}
+use Rattle.issuer_base.specs.OutsideFaults.{Rose, CountsFaults}
+use Rattle.issuer_base.specs.Sink.{AppendsFront}
+use Rattle.issuer_base.specs.Stores.{BothTold, Disk, LeavesOnly}
+use Rattle.issuer_base.specs.Desk.{FailedCall, is_fault, last_after}
+use Rattle.issuer_base.specs.declared.entry.Entry.{Entry}
+use Rattle.issuer_base.specs.declared.outside.DeskFault.{DeskFault}
+use Rattle.issuer_base.specs.declared.outside.DeskFault.TheVariants.{Fault, NoMemory as NoDeskRoom}
+use Rattle.issuer_base.specs.declared.outside.DeskCall.TheVariants.{Read}
+use Rattle.issuer_base.specs.declared.outside.store.Store.{Ghosts}
+use Rattle.issuer_base.proofs.ManyCalls.{Rose-from_none}
+use Rattle.issuer_base.proofs.Moments.{LeavesOnly-then, LeavesOnly-weaker}
+use Rattle.issuer_base.proofs.ToldTwice.{BothTold-then}
+use Rattle.answer_text.specs.declared.stop_line.Stop.TheVariants.{ReadFault as ReadStop, StoreFault as StoreStop, NoMemory}
+use Rattle.answer_text.specs.declared.stop_line.Stop.TheVariants.{TooLong as LongStop, BadFeed as FeedStop}
+use Rattle.issuer_setup.specs.IssuerSetup.{Setup}
+use Rattle.journal_rec.specs.RecordText.{journal_text}
+use Rattle.journal_store.specs.Images.{IsImage}
+use Rattle.shard_book.specs.declared.shard.Shard.{Shard}
+use Rattle.shard_book.specs.Grounds.{IsTail, grounds_of}
+use Rattle.shard_book.specs.Shards.{IsLoadImage, IsSettled, faults_in, store_in}
+use Rattle.shard_book.specs.Taking.{IsReplicaOf}
+use Rattle.host_loading.specs.Books.{ShardBook, histories_of}
+use Rattle.host_loading.specs.Hosts.{AreShards}
+use Rattle.standby_node.specs.declared.standby.Standby.{Standby}
+use Rattle.standby_node.specs.Standing.{Hold, IsReplicaBetween, KeepsShards, LeavesBetween, fails_at, shards_in}
+use Rattle.line_serving.specs.Following.{FollowsFeed, TakesFeed, WritesCounts, counts_text, fault_of, in_doubt_after, read_failed}
+use Rattle.line_serving.specs.Following.{write_failed}
+use Rattle.line_serving.specs.declared.follower.Followed.{Followed}
+use Rattle.line_serving.specs.declared.follower.Followed.TheVariants.{All, ReadFault, WriteFault, TooLong, BadFeed, StoreFault}
+use Rattle.desk_host.specs.SeenStores.{Logged, SeenStore, journals_seen, store_seen}
+use Rattle.desk_host.specs.Journals.{IsReady, old_name, journal_name}
+use Rattle.desk_host.proofs.CrashSteps.{crash-since, stays-opened}
+use Rattle.std.proofs.lemmas.List.{length-map}
+use Rattle.std.proofs.lemmas.Option.{same_Some}
+use Rattle.host_loading.proofs.Loads.{loaded-are}
+use Rattle.desk_host.specs.Configuration.{HasSoundParts}
+use Rattle.line_serving.proofs.Ready.{loaded-from}
+use Rattle.issuer_top.proofs.ReadingSteps.{stay-loaded}
+use Rattle.desk_host.proofs.KeptSteps.{begins}
+use Rattle.desk_host.proofs.SeenSteps.{at-place, journal-held, mapped, seen-at, seen-store}
+use Rattle.issuer_base.specs.Tells.{Tells}
+use Rattle.std.proofs.KnownBytes.{Appends-nil}
+use Rattle.line_blocks.specs.Answered.{WasRead}
+use Rattle.desk_host.specs.Lawful.{IsLawful}
+use Rattle.command_line.specs.Command.{IsStandby}
+use Rattle.issuer_top.specs.declared.ending.Ending.{Ending}
+use Rattle.issuer_top.specs.Seen.{Seen, SeenInput}
+use Rattle.issuer_top.specs.Opening.{GivesInput, stop_of}
+use Rattle.issuer_top.specs.Opened.{OpenedConfigOnly, OpenedBothInputs}
+use Rattle.issuer_top.specs.PinChanges.{SaysIssuer}
+use Rattle.issuer_top.specs.ReadAgain.{StayLoaded}
+use Rattle.issuer_top.specs.Standing.{IsReplicaImage, IsStandingBy, KeepReplicas, KeepsReplica, LoadsToStandBy, StandsBy}
+use Rattle.issuer_top.specs.Stopping.{EndsFollowing}
+use Rattle.issuer_top.specs.Endings.{HasIssuer, EndsBy}
+use Rattle.issuer_top.proofs.EndingSteps.{told-given, ends_by_stop, ends_at_once, StopsAtOnce}
+
+-- ---- the journals
+
+-- a load, and then a feed
+crash-fed : (issuer : Setup) (shard : ℕ) (old first last : List Entry) (was mid now : Option Disk)
+    → BothTold (λ before after. LeavesOnly (IsLoadImage old first before.now) before after) was mid
+    → BothTold (LeavesOnly (IsReplicaBetween issuer shard first last)) mid now
+    → BothTold (λ before after. LeavesOnly (IsReplicaImage issuer shard old first last before.now) before after) was now
+crash-fed issuer shard old first last was mid now =
+    BothTold-then (λ before after. LeavesOnly (IsLoadImage old first before.now) before after)
+    (LeavesOnly (IsReplicaBetween issuer shard first last))
+    (λ before after. LeavesOnly (IsReplicaImage issuer shard old first last before.now) before after) was mid now
+    (λ a b c loads feeds.
+    let P : List ℕ → Type 0 = IsReplicaImage issuer shard old first last a.now in
+    LeavesOnly-then P a b c
+    (LeavesOnly-weaker (IsLoadImage old first a.now) P a b (λ image left. inl left) loads)
+    (LeavesOnly-weaker (IsReplicaBetween issuer shard first last) P b c (λ image left. inr left) feeds))
+
+-- the record of a shard is in doubt exactly if its store is the one that failed
+doubts-failed : (followed : Followed) (shard : ℕ) → fails_at (fault_of followed) shard ≡ in_doubt_after followed shard
+doubts-failed All shard = refl
+doubts-failed ReadFault shard = refl
+doubts-failed WriteFault shard = refl
+doubts-failed (TooLong line) shard = refl
+doubts-failed (BadFeed line) shard = refl
+doubts-failed (StoreFault failed) shard = refl
+
+module _ {S : Type 0} {G : Ghosts S} where
+  -- what a shard that stands for a history, or is a replica of it, has in its store
+  record HasHistory (issuer : Setup) (number : ℕ) (shard : Shard S G) (history : List Entry) (in_doubt : Bool)
+      : Type 0 where
+    tail : List ℕ
+    tail_is : IsTail (grounds_of issuer) number history tail
+    bytes_are : IfSome (G.bytes (store_in shard)) (IsImage (journal_text history) tail)
+    doubted : MatchBool in_doubt (0 < faults_in shard) ((tail ≡ []) × (faults_in shard ≡ 0))
+
+  has-history : (issuer : Setup) (number : ℕ) (shard : Shard S G) (history : List Entry) (in_doubt : Bool)
+      → shard.rows.shard ≡ number
+      → MatchBool in_doubt (IsReplicaOf issuer shard history) (IsSettled issuer shard history)
+      → CountsFaults 0 (faults_in shard) in_doubt → HasHistory issuer number shard history in_doubt
+  has-history issuer number shard history true number_is replica counts =
+      let holds = replica.journal_holds in
+      record {
+        tail = holds.tail;
+        tail_is = subst (λ (n : ℕ). IsTail (grounds_of issuer) n history holds.tail) number_is holds.tail_is;
+        bytes_are = holds.holds.bytes_are;
+        doubted = Rose-from_none (faults_in shard) counts.counted;
+      }
+  has-history issuer number shard history false number_is settled counts = record {
+    tail = [];
+    tail_is = inl refl;
+    bytes_are = settled.settled.bytes_are;
+    doubted = (refl, counts.counted);
+  }
+
+  module _ (issuer : Setup) (prefix : List ℕ) (logs : Logged) (olds : List S) (loaded now : List (Shard S G))
+      (ready : IsReady issuer prefix logs olds loaded)
+      (before : AreShards issuer loaded) (after : AreShards issuer now)
+      (told : (store : S) → IfSome (G.disk store) (λ disk. G.bytes store ≡ Some disk.now.bytes))
+      (followed : Followed) (histories : List (List Entry))
+      (hold : Hold issuer (in_doubt_after followed) now histories)
+      (leaves : LeavesBetween issuer (histories_of (begins issuer prefix logs olds loaded ready).books) histories loaded
+      now)
+      (keeps : KeepsShards issuer loaded (fault_of followed) now) where
+    keeps-replica : (shard : ℕ) (was : ShardBook) (history : List Entry) (old_seen seen : SeenStore)
+        → slice_get (begins issuer prefix logs olds loaded ready).books shard ≡ Some was
+        → slice_get histories shard ≡ Some history → slice_get (map (store_seen G) olds) shard ≡ Some old_seen
+        → slice_get (map (store_seen G) (map store_in now)) shard ≡ Some seen
+        → KeepsReplica issuer shard (logs (old_name prefix shard)) (logs (journal_name prefix shard)) was history
+        (in_doubt_after followed shard) old_seen seen
+    keeps-replica shard was history old_seen seen was_at history_at old_at seen_at =
+        let books = begins issuer prefix logs olds loaded ready in
+        let here = seen-at now shard seen seen_at in
+        let old_here = seen-store G olds shard old_seen old_at in
+        let within = slice_get_within books.books shard was was_at in
+        let count = books.has_run.stand.count_is in
+        let opened = ready.loaded.count_is in
+        let olds_opened = ready.loaded.olds_are in
+        let store = at-place ready.stores shard (omega (arith, within, count, opened)) in
+        let old = at-place ready.old_stores shard (omega (arith, within, count, opened, olds_opened)) in
+        let one = at-place loaded shard (omega (arith, within, count)) in
+        let book = books.books_are shard old.0 store.0 one.0 was old.1 store.1 one.1 was_at in
+        let log = ready.opened.stores_are shard store.0 store.1 in
+        let old_log = ready.opened.olds_are shard old.0 old.1 in
+        let read = ready.only_read.each shard old.0 old_here.0 old.1 old_here.1 in
+        let from = ready.loaded.each shard old.0 old_here.0 store.0 one.0 old.1 old_here.1 store.1 one.1 in
+        let old_held = logs (old_name prefix shard) in
+        let held = logs (journal_name prefix shard) in
+        let no_fault : was.faults ≡ 0 = book.counts.counted ∙ log.new in
+        let faults_one : faults_in one.0 ≡ 0 = (books.has_run.stand.each shard one.0 was one.1 was_at).faults_are ∙ no_fault in
+        let call = keeps.each shard one.0 here.0 one.1 here.1 in
+        let counts : CountsFaults 0 (faults_in here.0) (in_doubt_after followed shard) =
+        subst (CountsFaults 0 (faults_in here.0)) (doubts-failed followed shard)
+        (subst (λ (n : ℕ). CountsFaults n (faults_in here.0) (fails_at (fault_of followed) shard)) faults_one
+        call.counts) in
+        let has = has-history issuer shard here.0 history (in_doubt_after followed shard)
+        (after.numbers_are shard here.0 here.1) (hold.each shard here.0 history here.1 history_at) counts in
+        let was_history = slice_get-map (λ (b : ShardBook). b.history) books.books shard
+        ∙ ap (option_map (λ (b : ShardBook). b.history)) was_at in
+        subst
+        (λ (s : SeenStore). KeepsReplica issuer shard old_held held was history (in_doubt_after followed shard) old_seen
+        s) here.2
+        (subst
+        (λ (s : SeenStore). KeepsReplica issuer shard old_held held was history (in_doubt_after followed shard) s
+        (store_seen G (store_in here.0))) old_here.2
+        (record {
+          old = book.old_history;
+          was = record {
+            journal_is =
+                journal-held issuer shard old_held held (G.bytes old.0) (G.bytes store.0) book.old_history
+                was.history old_log.bytes_are log.bytes_are book.journal_is;
+            no_fault = no_fault;
+            none_reported = book.untold;
+          };
+          old_stays = stays-opened told old_held old.0 old_here.0 old_log read.bytes_are read.disk_is;
+          old_no_fault = from.old_counts.counted ∙ old_log.new;
+          extended = leaves.extended shard was.history history was_history history_at;
+          tail = has.tail;
+          tail_is = has.tail_is;
+          bytes_are = has.bytes_are;
+          doubted = has.doubted;
+          crash_since =
+              crash-since (IsReplicaImage issuer shard book.old_history was.history history) held (G.bytes store.0)
+              (G.disk store.0) (G.disk (store_in here.0))
+              (crash-fed issuer shard book.old_history was.history history (G.disk store.0)
+              (G.disk (store_in one.0)) (G.disk (store_in here.0)) book.leaves
+              (leaves.leaves shard one.0 here.0 was.history history one.1 here.1 was_history history_at))
+              log.untouched (told store.0) log.bytes_are;
+        }))
+
+    pub keep-replicas : (stores : List S) → stores ≡ map store_in now
+        → KeepReplicas issuer prefix logs (journals_seen G olds stores) (begins issuer prefix logs olds loaded ready).books
+        histories (in_doubt_after followed)
+    keep-replicas stores stores_are =
+        let books = begins issuer prefix logs olds loaded ready in
+        let olds_count : length olds ≡ issuer.shards = ready.loaded.read_are ∙ ready.opened.stores_count in
+        subst
+        (λ (ss : List S). KeepReplicas issuer prefix logs (journals_seen G olds ss) books.books histories
+        (in_doubt_after followed)) (sym stores_are)
+        (record {
+          olds_are = mapped (store_seen G) olds ∙ olds_count;
+          stores_are = mapped (store_seen G) (map store_in now) ∙ mapped store_in now ∙ after.count_is;
+          first_are = books.has_run.stand.count_is ∙ before.count_is;
+          histories_are = hold.count_is ∙ after.count_is;
+          each = keeps-replica;
+        })
+
+-- ---- shards that were just loaded
+
+module _ {S : Type 0} {G : Ghosts S} (issuer : Setup) (prefix : List ℕ) (logs : Logged) (olds : List S)
+    (loaded : List (Shard S G)) (ready : IsReady issuer prefix logs olds loaded) where
+  -- there is one for each number
+  pub ready-are : AreShards issuer loaded
+  ready-are = loaded-are issuer ready.old_stores olds ready.stores loaded ready.opened.stores_count ready.loaded
+
+  -- they hold the histories that they were loaded to, and nothing is in doubt
+  pub ready-hold : Hold issuer (λ number. false) loaded
+      (histories_of (begins issuer prefix logs olds loaded ready).books)
+  ready-hold =
+      let books = begins issuer prefix logs olds loaded ready in
+      let stand = books.has_run.stand in
+      record {
+        count_is = length-map books.books (λ (b : ShardBook). b.history) ∙ stand.count_is;
+        each = λ number shard history shard_at history_at.
+            let within = slice_get_within loaded number shard shard_at in
+            let count = stand.count_is in
+            let opened = ready.loaded.count_is in
+            let olds_opened = ready.loaded.olds_are in
+            let book = at-place books.books number (omega (arith, within, count)) in
+            let store = at-place ready.stores number (omega (arith, within, opened)) in
+            let old = at-place ready.old_stores number (omega (arith, within, opened, olds_opened)) in
+            let its = stand.each number shard book.0 shard_at book.1 in
+            let from = books.books_are number old.0 store.0 shard book.0 old.1 store.1 shard_at book.1 in
+            let same : book.0.history ≡ history =
+            same_Some book.0.history history
+            (sym (slice_get-map (λ (b : ShardBook). b.history) books.books number
+            ∙ ap (option_map (λ (b : ShardBook). b.history)) book.1) ∙ history_at) in
+            subst (IsSettled issuer shard) same
+            (record { stands = its.stands; settled = its.settled from.untold });
+      }
+
+  -- and their stores are as loading left them
+  pub ready-stay : HasSoundParts issuer
+      → ((store : S) → IfSome (G.disk store) (λ disk. G.bytes store ≡ Some disk.now.bytes))
+      → (stores : List S) → stores ≡ map store_in loaded → StayLoaded issuer prefix logs (journals_seen G olds stores)
+  ready-stay sound told stores stores_are =
+      stay-loaded G issuer prefix logs olds stores
+      (loaded-from issuer prefix logs olds loaded ready sound told stores stores_are)
+
+-- what of the feed was read, and what it makes
+pub record ReadsFeed (issuer : Setup) (opening : List (List Entry)) (was now : Option (List ℕ)) (followed : Followed)
+    (histories : List (List Entry)) : Type 0 where
+  pub file : List ℕ
+  pub read : List ℕ
+  pub content : Tells was file
+  pub was_read : WasRead file read now
+  pub takes : TakesFeed issuer opening file read followed histories
+
+-- what a feed that was taken makes of shards that were just loaded
+module _ {S : Type 0} {G : Ghosts S} (issuer : Setup) (prefix : List ℕ) (logs : Logged) (olds : List S)
+    (loaded : List (Shard S G)) (ready : IsReady issuer prefix logs olds loaded)
+    (told : (store : S) → IfSome (G.disk store) (λ disk. G.bytes store ≡ Some disk.now.bytes))
+    (old new : Standby S G) (begun : shards_in old ≡ loaded) (followed : Followed)
+    (keeps : KeepsShards issuer (shards_in old) (fault_of followed) (shards_in new)) where
+  pub took-feed : (was now : Option (List ℕ)) (histories : List (List Entry))
+      → FollowsFeed issuer (histories_of (begins issuer prefix logs olds loaded ready).books) was now old new followed
+      histories
+      → (stores : List S) → stores ≡ map store_in (shards_in new)
+      → KeepReplicas issuer prefix logs (journals_seen G olds stores) (begins issuer prefix logs olds loaded ready).books
+      histories (in_doubt_after followed)
+      × ReadsFeed issuer (histories_of (begins issuer prefix logs olds loaded ready).books) was now followed histories
+  took-feed was now histories follows stores stores_are = (
+    keep-replicas issuer prefix logs olds loaded (shards_in new) ready (ready-are issuer prefix logs olds loaded ready)
+        keeps.shards told followed histories follows.hold
+        (subst
+        (λ (shards : List (Shard S G)).
+        LeavesBetween issuer (histories_of (begins issuer prefix logs olds loaded ready).books) histories shards
+        (shards_in new)) begun follows.leaves)
+        (subst (λ (shards : List (Shard S G)). KeepsShards issuer shards (fault_of followed) (shards_in new)) begun keeps)
+        stores stores_are,
+    record {
+      file = follows.file;
+      read = follows.read;
+      content = follows.content;
+      was_read = follows.was_read;
+      takes = follows.takes;
+    },
+  )
+
+-- ---- the ways that a standby ends
+
+-- the words and the configuration are as they should be
+pub is-standing_by : (seen : Seen) (config feed journal : List ℕ) (issuer : Setup)
+    → IsStandby seen.words config feed journal → SaysIssuer seen config issuer
+    → IsStandingBy seen feed journal issuer
+is-standing_by seen config feed journal issuer command said =
+    record { config = config; command = command; said = said }
+
+-- so they are of an issuer that stays the same
+pub standing-same : (seen : Seen) (feed journal : List ℕ) (issuer other : Setup) → other ≡ issuer
+    → IsStandingBy seen feed journal issuer → IsStandingBy seen feed journal other
+standing-same seen feed journal issuer other same set_up =
+    subst (λ (i : Setup). IsStandingBy seen feed journal i) (sym same) set_up
+
+-- and so are the shards that were loaded, of whose journals the desk tells the same
+pub ready-same : {S : Type 0} {G : Ghosts S} (issuer : Setup) (prefix : List ℕ) (logs other : Logged) (olds : List S)
+    (shards : List (Shard S G)) → logs ≡ other
+    → IsReady issuer prefix logs olds shards → IsReady issuer prefix other olds shards
+ready-same issuer prefix logs other olds shards same ready =
+    subst (λ (l : Logged). IsReady issuer prefix l olds shards) same ready
+
+-- they are those of a command over journals
+pub standby-issuer : (seen : Seen) (feed journal : List ℕ) (issuer : Setup) → IsStandingBy seen feed journal issuer
+    → HasIssuer seen journal issuer
+standby-issuer seen feed journal issuer set_up = record {
+  config = set_up.config;
+  command = inr (inr (inr (feed, set_up.command)));
+  said = set_up.said;
+}
+
+module _ (seen : Seen) (feed journal : List ℕ) (issuer : Setup) (set_up : IsStandingBy seen feed journal issuer) where
+  module _ (stay : StayLoaded issuer journal seen.desk.logs seen.journals) where
+    loads : LoadsToStandBy seen
+    loads = record { feed = feed; journal = journal; issuer = issuer; set_up = set_up; stay = stay }
+
+    -- no memory was left to take a feed with
+    pub ends_unfollowed : (ending : Ending) → OpenedConfigOnly seen → StopsAtOnce seen NoMemory ending
+        → EndsBy seen ending
+    unfolding loads
+    ends_unfollowed ending opened stopping =
+        ends_at_once seen NoMemory ending
+        (inr (inr (inr (inr (inr (inr (record { loaded = loads; opened = opened; told = refl }))))))) stopping
+
+    -- the desk gave no feed
+    pub ends_no_feed : (T : Type 0) (other : Option FailedCall) (between : ℕ) (fault : DeskFault) (ending : Ending)
+        → is_some seen.config ≡ true → is_some seen.requests ≡ false
+        → between ≡ seen.desk.faults_before → CountsFaults between seen.desk.faults_after (is_fault {T = T} (Err fault))
+        → seen.desk.last_fault ≡ last_after Read feed (is_fault {T = T} (Err fault)) other
+        → StopsAtOnce seen (stop_of fault) ending → EndsBy seen ending
+    unfolding loads
+    ends_no_feed T other between Fault ending with_config no_requests stood desk_count last stopping =
+        ends_at_once seen ReadStop ending
+        (inr (inr (inr (inr (inr (inr (inl (record {
+          loaded = loads;
+          fails = record {
+            config_is = with_config;
+            requests_is = no_requests;
+            rose = subst (λ (n : ℕ). Rose n seen.desk.faults_after) stood desk_count.counted;
+            call_is = last;
+          };
+          told = refl;
+        }))))))))
+        stopping
+    ends_no_feed T other between NoDeskRoom ending with_config no_requests stood desk_count last stopping =
+        ends_unfollowed ending (record {
+          config_is = with_config;
+          requests_is = no_requests;
+          desk_stood = desk_count.counted ∙ stood;
+        }) stopping
+
+  module _ (input : SeenInput) (left : Option (List ℕ)) (opened : OpenedBothInputs seen)
+      (input_is : seen.requests ≡ Some input) (given : GivesInput (seen.desk.tells feed) left)
+      (first : List ShardBook) (lawful : IsLawful issuer first first) where
+    -- nothing was written
+    unwritten : (held : Option (List ℕ)) → held ≡ seen.sink.held_before → Appends seen.sink.held_before held []
+    unwritten held same =
+        subst (λ (h : Option (List ℕ)). Appends seen.sink.held_before h []) (sym same)
+        (Appends-nil seen.sink.held_before)
+
+    -- the feed was taken, up to this end
+    abbrev pub Took : Followed → List (List Entry) → Type 0
+    Took followed histories =
+        KeepReplicas issuer journal seen.desk.logs seen.journals first histories (in_doubt_after followed)
+        × ReadsFeed issuer (histories_of first) left input.left followed histories
+
+    stands : (followed : Followed) (histories : List (List Entry)) → Took followed histories → StandsBy followed seen
+    stands followed histories took = record {
+      feed = feed;
+      journal = journal;
+      issuer = issuer;
+      set_up = set_up;
+      opened = opened;
+      input = input;
+      input_is = input_is;
+      file = took.1.file;
+      read = took.1.read;
+      held = told-given (seen.desk.tells feed) left took.1.file given took.1.content;
+      was_read = took.1.was_read;
+      first = first;
+      lawful = lawful;
+      histories = histories;
+      takes = took.1.takes;
+      kept = took.0;
+    }
+
+    -- how the run ends, by how taking the feed did
+    pub ends_following : (followed : Followed) (histories : List (List Entry)) (ending : Ending)
+        (held : Option (List ℕ)) (faults fresh : ℕ) → Took followed histories
+        → WritesCounts followed seen.sink.held_before held (counts_text histories)
+        → CountsFaults seen.sink.faults_before faults (write_failed followed)
+        → fresh ≡ 0 → (read_failed followed ≡ true → Rose fresh input.faults)
+        → EndsFollowing held seen.sink.held_after faults seen.sink.faults_after followed ending → EndsBy seen ending
+    unfolding stands
+    ends_following All histories ending held faults fresh took writes counts none failed ends =
+        subst (EndsBy seen) (sym ends.ending_is) (
+          counts_text histories,
+          inr (inr (inr (inr (inr (inr (inr (record { stands = stands All histories took; text_is = refl }))))))),
+          subst (λ (h : Option (List ℕ)). Appends seen.sink.held_before h (counts_text histories)) (sym ends.same) writes,
+        )
+    ends_following WriteFault histories ending held faults fresh took writes counts none failed ends =
+        subst (EndsBy seen) (sym ends.ending_is) (record {
+          rose = subst (Rose seen.sink.faults_before) (sym ends.stood) counts.counted;
+          text = counts_text histories;
+          due = inr (inr (inr (inr (inr (inr (inr (inr (inr (inr (record {
+            stands = stands WriteFault histories took;
+            text_is = refl;
+          }))))))))));
+          front =
+              subst (λ (h : Option (List ℕ)). AppendsFront seen.sink.held_before h (counts_text histories))
+              (sym ends.same) writes;
+        })
+    ends_following ReadFault histories ending held faults fresh took writes counts none failed ends =
+        let rose : Rose 0 input.faults = subst (λ (n : ℕ). Rose n input.faults) none (failed refl) in
+        ends_by_stop seen held faults ReadStop ending []
+        (inr (inr (inr (inr (inr (inr (inr (record {
+          stands = stands ReadFault histories took;
+          failed = Rose-from_none input.faults rose;
+          last = refl;
+        }))))))))
+        (unwritten held writes) counts.never_falls ends
+    ends_following (TooLong line) histories ending held faults fresh took writes counts none failed ends =
+        ends_by_stop seen held faults (LongStop line) ending []
+        (inr (inr (record { stands = stands (TooLong line) histories took; last = refl })))
+        (unwritten held writes) counts.never_falls ends
+    ends_following (BadFeed line) histories ending held faults fresh took writes counts none failed ends =
+        ends_by_stop seen held faults (FeedStop line) ending []
+        (record { stands = stands (BadFeed line) histories took; last = refl })
+        (unwritten held writes) counts.never_falls ends
+    ends_following (StoreFault shard) histories ending held faults fresh took writes counts none failed ends =
+        ends_by_stop seen held faults (StoreStop shard) ending []
+        (inr (inr (inr (record { stands = stands (StoreFault shard) histories took; last = refl }))))
+        (unwritten held writes) counts.never_falls ends

@@ -1,0 +1,112 @@
+-- How a run ends that checks clearing lines against the records of the journals.
+use Rattle.std.specs.Prelude.{◌≡◌, ℕ, ◌<◌, true, List, ◌++◌, Some}
+use Rattle.issuer_base.specs.Tells.{Tells}
+use Rattle.issuer_base.specs.declared.entry.Entry.{Entry}
+use Rattle.answer_text.specs.StopText.{stop_text}
+use Rattle.answer_text.specs.declared.stop_line.Stop.{Stop}
+use Rattle.answer_text.specs.declared.stop_line.Stop.TheVariants.{ReadFault, NoMemory, TooLong}
+use Rattle.issuer_setup.specs.IssuerSetup.{Setup}
+use Rattle.host_loading.specs.Books.{ShardBook}
+use Rattle.command_line.specs.Command.{IsClear}
+use Rattle.line_blocks.specs.Answered.{WasRead, AreAllLines, AreWholeLines, AreLinesBefore, AreFirstLines}
+use Rattle.clearing_check.specs.declared.filed.Filed.{Filed}
+use Rattle.clearing_check.specs.ClearText.{clear_text, verdicts_text}
+use Rattle.journal_reader.specs.Filing.{filed_records}
+use Rattle.journal_reader.specs.declared.filing.FilingFault.{FilingFault}
+use Rattle.desk_host.specs.SeenStores.{SeenJournals}
+use Rattle.issuer_top.specs.Opened.{OpenedConfigOnly, OpenedBothInputs, FailsToOpen}
+use Rattle.issuer_top.specs.PinChanges.{SaysIssuer}
+use Rattle.issuer_top.specs.ReadAgain.{StayLoaded, AreRead, StopsReading, stop_of_reading}
+use Rattle.issuer_top.specs.Seen.{Seen, SeenInput}
+
+-- the words are the command to check clearing lines, with this clearing file and this name of journals, and the
+-- configuration says this issuer
+pub record IsClearing (seen : Seen) (clearing journal : List ℕ) (issuer : Setup) : Type 0 where
+  pub config : List ℕ
+  pub command : IsClear seen.words config clearing journal
+  pub said : SaysIssuer seen config issuer
+
+-- ---- the journals
+
+-- the journals were loaded to check clearing lines, and are as loading left them
+pub record LoadsToClear (seen : Seen) : Type 0 where
+  pub clearing : List ℕ
+  pub journal : List ℕ
+  pub issuer : Setup
+  pub set_up : IsClearing seen clearing journal issuer
+  pub stay : StayLoaded issuer journal seen.desk.logs seen.journals
+
+-- these are the filed records of the journals
+pub record FilesBooks (issuer : Setup) (journals : SeenJournals) (books : List ShardBook) (records : List Filed)
+    : Type 0 where
+  pub histories : List (List Entry)
+  pub read : AreRead journals books histories
+  pub records_are : records ≡ filed_records issuer histories
+
+-- ---- the clearing lines
+
+-- lines of the clearing file were read and checked against the records of the journals, and this is what that prints:
+-- the verdicts, or the whole text
+pub record ChecksLines (text_of : Setup → List Filed → List (List ℕ) → List ℕ) (seen : Seen) (text : List ℕ)
+    : Type 0 where
+  pub loaded : LoadsToClear seen
+  pub opened : OpenedBothInputs seen
+  pub records : List Filed
+  pub filed : FilesBooks loaded.issuer seen.journals loaded.stay.first records
+  pub input : SeenInput
+  pub input_is : seen.requests ≡ Some input
+  pub file : List ℕ
+  pub read : List ℕ
+  pub asked : List (List ℕ)
+  pub held : Tells (seen.desk.tells loaded.clearing) (Some file)
+  pub was_read : WasRead file read input.left
+  pub text_is : text ≡ text_of loaded.issuer records asked
+
+-- status 0: all lines of the clearing file were checked
+pub record IsCleared (seen : Seen) (text : List ℕ) : Type 0 where
+  pub lines : ChecksLines clear_text seen text
+  pub which : AreAllLines lines.file lines.read lines.asked
+
+-- the first lines of the clearing file were judged
+pub record IsCheckBegun (seen : Seen) (text : List ℕ) : Type 0 where
+  pub lines : ChecksLines verdicts_text seen text
+  pub which : AreFirstLines lines.file lines.read lines.asked
+
+-- status 3: the desk failed at the clearing file's name, once the records of the journals were filed
+pub record CannotOpenClearing (seen : Seen) (text : List ℕ) : Type 0 where
+  pub loaded : LoadsToClear seen
+  pub fails : FailsToOpen seen loaded.clearing true
+  pub told : text ≡ stop_text ReadFault
+
+-- status 3: the clearing file failed while it was read, and the whole lines of what was read were judged
+pub record CannotReadClearing (seen : Seen) (text : List ℕ) : Type 0 where
+  pub verdicts : List ℕ
+  pub lines : ChecksLines verdicts_text seen verdicts
+  pub which : AreWholeLines lines.read lines.asked
+  pub failed : 0 < lines.input.faults
+  pub last : text ≡ verdicts ++ stop_text ReadFault
+
+-- statuses 5 and 6: the journals were loaded, and couldn't be read again; the clearing file was not opened
+pub record CannotReadAgain (stop : Stop) (seen : Seen) (text : List ℕ) : Type 0 where
+  pub loaded : LoadsToClear seen
+  pub opened : OpenedConfigOnly seen
+  pub fault : FilingFault
+  pub shard : ℕ
+  pub cause : StopsReading seen.journals.stores shard fault
+  pub stop_is : stop ≡ stop_of_reading fault shard
+  pub last : text ≡ stop_text stop
+
+-- status 7: no memory was left to check clearing lines with, once the journals were loaded and before the clearing file
+-- was opened
+pub record CannotCheck (seen : Seen) (text : List ℕ) : Type 0 where
+  pub loaded : LoadsToClear seen
+  pub opened : OpenedConfigOnly seen
+  pub told : text ≡ stop_text NoMemory
+
+-- status 8: a byte of the clearing file past a limit was read, in the line of this number, and the lines before were
+-- judged
+pub record IsClearingTooLong (number : ℕ) (seen : Seen) (text : List ℕ) : Type 0 where
+  pub verdicts : List ℕ
+  pub lines : ChecksLines verdicts_text seen verdicts
+  pub which : AreLinesBefore number lines.read lines.asked
+  pub last : text ≡ verdicts ++ stop_text (TooLong number)

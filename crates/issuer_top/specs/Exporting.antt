@@ -1,0 +1,84 @@
+-- How a run ends that writes the records of the journals as a feed.
+use Rattle.std.specs.Prelude.{◌≡◌, ℕ, ◌<◌, List, [], ◌∷◌, ◌++◌, length, slice_get, Some}
+use Rattle.issuer_base.specs.declared.entry.Entry.{Entry}
+use Rattle.answer_text.specs.StopText.{stop_text}
+use Rattle.answer_text.specs.declared.stop_line.Stop.{Stop}
+use Rattle.answer_text.specs.declared.stop_line.Stop.TheVariants.{NoMemory}
+use Rattle.issuer_setup.specs.IssuerSetup.{Setup}
+use Rattle.host_loading.specs.Books.{ShardBook}
+use Rattle.command_line.specs.Command.{IsExport}
+use Rattle.journal_reader.specs.declared.reader.RecordFault.{RecordFault}
+use Rattle.journal_reader.specs.Filing.{fault_of}
+use Rattle.journal_reader.specs.Exporting.{feed_text}
+use Rattle.desk_host.specs.SeenStores.{SeenJournals}
+use Rattle.issuer_top.specs.Opened.{OpenedConfigOnly}
+use Rattle.issuer_top.specs.PinChanges.{SaysIssuer}
+use Rattle.issuer_top.specs.ReadAgain.{StayLoaded, AreRead, ReadsAs, StopsReading, stop_of_reading}
+use Rattle.issuer_top.specs.Seen.{Seen}
+
+-- the words are the command to export, with this name of journals, and the configuration says this issuer
+pub record IsExporting (seen : Seen) (journal : List ℕ) (issuer : Setup) : Type 0 where
+  pub config : List ℕ
+  pub command : IsExport seen.words config journal
+  pub said : SaysIssuer seen config issuer
+
+-- the journals were loaded to be exported, and are as loading left them; only the configuration was opened besides
+pub record LoadsToExport (seen : Seen) : Type 0 where
+  pub journal : List ℕ
+  pub issuer : Setup
+  pub set_up : IsExporting seen journal issuer
+  pub stay : StayLoaded issuer journal seen.desk.logs seen.journals
+  pub opened : OpenedConfigOnly seen
+
+-- ---- feeds
+
+-- the feed of all records of the journals
+pub record IsFeed (journals : SeenJournals) (books : List ShardBook) (feed : List ℕ) : Type 0 where
+  pub histories : List (List Entry)
+  pub read : AreRead journals books histories
+  pub feed_is : feed ≡ feed_text histories
+
+-- the records are the first ones of these
+abbrev pub AreFirst : List Entry → List Entry → Type 0
+AreFirst first whole = (more : List Entry) × (whole ≡ first ++ more)
+
+-- the feed of the records before one of this shard: all of the shards before it, and first ones of this shard
+pub record IsFeedUpTo (journals : SeenJournals) (books : List ShardBook) (shard : ℕ) (feed : List ℕ) : Type 0 where
+  pub histories : List (List Entry)
+  pub first : List Entry
+  pub within : shard < length books
+  pub count_is : length histories ≡ shard
+  pub before : (number : ℕ) (history : List Entry) → slice_get histories number ≡ Some history
+      → ReadsAs (λ read whole. read ≡ whole) journals books number history
+  pub at : ReadsAs AreFirst journals books shard first
+  pub feed_is : feed ≡ feed_text (histories ++ first ∷ [])
+
+-- ---- the ways to end
+
+-- status 0: the feed of all records was written
+pub record IsExported (seen : Seen) (text : List ℕ) : Type 0 where
+  pub loaded : LoadsToExport seen
+  pub feed : IsFeed seen.journals loaded.stay.first text
+
+-- status 4: the feed of the first records
+pub record IsExportBegun (seen : Seen) (text : List ℕ) : Type 0 where
+  pub loaded : LoadsToExport seen
+  pub shard : ℕ
+  pub feed : IsFeedUpTo seen.journals loaded.stay.first shard text
+
+-- statuses 5 and 6: the journals were loaded, and the one of this shard couldn't be read on; the feed of the records
+-- before is written
+pub record CannotReadOn (stop : Stop) (seen : Seen) (text : List ℕ) : Type 0 where
+  pub loaded : LoadsToExport seen
+  pub shard : ℕ
+  pub written : List ℕ
+  pub feed : IsFeedUpTo seen.journals loaded.stay.first shard written
+  pub fault : RecordFault
+  pub cause : StopsReading seen.journals.stores shard (fault_of fault)
+  pub stop_is : stop ≡ stop_of_reading (fault_of fault) shard
+  pub last : text ≡ written ++ stop_text stop
+
+-- status 7: no memory was left to export with, once the journals were loaded
+pub record CannotExport (seen : Seen) (text : List ℕ) : Type 0 where
+  pub loaded : LoadsToExport seen
+  pub told : text ≡ stop_text NoMemory

@@ -1,0 +1,80 @@
+-- How a run ends that writes a change of a PIN.
+use Rattle.std.specs.Prelude.{◌≡◌, ℕ, ◌⊎◌, List, Option, None, Some, Result, Ok, Err}
+use Rattle.std.specs.Option.{option_and_then}
+use Rattle.issuer_base.specs.OutsideFaults.{Rose}
+use Rattle.issuer_base.specs.Tells.{Tells}
+use Rattle.answer_text.specs.QueueText.{queue_text}
+use Rattle.answer_text.specs.StopText.{status_of_stop}
+use Rattle.answer_text.specs.declared.stop_line.Stop.{Stop}
+use Rattle.answer_text.specs.declared.stop_line.Stop.TheVariants.{NoKey}
+use Rattle.des_block.specs.declared.Key16.{Key16}
+use Rattle.key_derive.specs.declared.card.KeySet.{KeySet}
+use Rattle.key_derive.specs.CardKey.{card_smc}
+use Rattle.secure_msg.specs.PinChange.{pin_command}
+use Rattle.issuer_setup.specs.CardList.{number_of}
+use Rattle.issuer_setup.specs.IssuerSetup.{Setup}
+use Rattle.issuer_setup.specs.KeyList.{key_of}
+use Rattle.config_read.specs.Configuration.{configured}
+use Rattle.command_line.specs.Command.{PinOrder, IsPin}
+use Rattle.issuer_top.specs.Played.{GivesText}
+use Rattle.issuer_top.specs.Stopping.{GivesStop}
+use Rattle.issuer_top.specs.Seen.{Seen}
+use Rattle.issuer_top.specs.declared.ending.Ending.{Ending}
+
+-- the master key for confidentiality of the order's card under a key set, if the card exists and the set has the
+-- issuer's
+abbrev pub smc_under : PinOrder → Option ℕ → Option KeySet → Option Key16
+smc_under order None set = None
+smc_under order (Some card) set = option_and_then (λ set. card_smc set order.pan order.psn) set
+
+-- that under the key set of the order's derivation key index
+abbrev pub smc_for : Setup → PinOrder → Option Key16
+smc_for issuer order =
+    smc_under order (number_of (record { pan = order.pan; psn = order.psn }) issuer.cards)
+    (key_of order.dki issuer.keys)
+
+-- the line that queues the change of the PIN for the card that has this key
+abbrev pub change_text : PinOrder → Key16 → List ℕ
+change_text order smc = queue_text order.pan order.psn (pin_command smc.0 order.salt order.pin)
+
+-- the line of an order, or why there is none: no card has its numbers, no key set its index, or that set no such key
+abbrev pub change_by : PinOrder → Option Key16 → Result (List ℕ) Stop
+change_by order None = Err NoKey
+change_by order (Some smc) = Ok (change_text order smc)
+
+abbrev pub changing : Setup → PinOrder → Result (List ℕ) Stop
+changing issuer order = change_by order (smc_for issuer order)
+
+-- the sink was given the line, or the last line of a run that stops
+abbrev pub ChangesBy : Result (List ℕ) Stop → Option (List ℕ) → Option (List ℕ) → ℕ → ℕ → Ending → Type 0
+ChangesBy (Ok text) held_before held_after faults_before faults_after ending =
+    GivesText held_before held_after faults_before faults_after text ending
+ChangesBy (Err stop) held_before held_after faults_before faults_after ending =
+    GivesStop held_before held_after faults_before faults_after stop ending
+
+-- the configuration of this name says this issuer, where the desk tells of it
+pub record SaysIssuer (seen : Seen) (config : List ℕ) (issuer : Setup) : Type 0 where
+  pub content : List ℕ
+  pub held : Tells (seen.desk.tells config) (Some content)
+  pub says : configured content ≡ Ok issuer
+
+-- the status of a run that writes a change of a PIN, unless the sink fails
+abbrev pub change_status : Result (List ℕ) Stop → ℕ
+change_status (Ok text) = 0
+change_status (Err stop) = status_of_stop stop
+
+-- the configuration gave no issuer: it is broken, it failed, or no memory was left
+abbrev pub IsUnread : ℕ → Type 0
+IsUnread status = (status ≡ 2) ⊎ ((status ≡ 3) ⊎ (status ≡ 7))
+
+-- the configuration gave an issuer, and the status is 0 or 12, as it has the card and the key or not
+abbrev pub IsAnswered : ℕ → Seen → PinOrder → Type 0
+IsAnswered status seen order =
+    (issuer : Setup) × SaysIssuer seen order.config issuer × (status ≡ change_status (changing issuer order))
+
+-- where the words are the command to change a PIN, the status is 2, 3 or 7 without an issuer, and then 0 or 12 by the
+-- issuer; or 4, and the sink failed
+abbrev pub Pins : ℕ → Seen → Type 0
+Pins status seen = (order : PinOrder) → IsPin seen.words order
+    → IsUnread status
+    ⊎ (IsAnswered status seen order ⊎ ((status ≡ 4) × Rose seen.sink.faults_before seen.sink.faults_after))

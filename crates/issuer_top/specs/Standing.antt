@@ -1,0 +1,150 @@
+-- How a run ends that takes a feed into the journals of a standby.
+use Rattle.std.specs.Prelude.{◌≡◌, ◌⊎◌, ℕ, ◌<◌, Bool, true, MatchBool, List, [], length, slice_get, Option, Some, IfSome}
+use Rattle.issuer_base.specs.Stores.{Moment}
+use Rattle.issuer_base.specs.Tells.{Tells}
+use Rattle.issuer_base.specs.declared.entry.Entry.{Entry}
+use Rattle.answer_text.specs.StopText.{stop_text}
+use Rattle.answer_text.specs.declared.stop_line.Stop.TheVariants.{ReadFault as ReadStop, StoreFault as StoreStop, NoMemory}
+use Rattle.answer_text.specs.declared.stop_line.Stop.TheVariants.{TooLong as LongStop, BadFeed as FeedStop}
+use Rattle.issuer_setup.specs.IssuerSetup.{Setup}
+use Rattle.journal_rec.specs.RecordText.{journal_text}
+use Rattle.journal_store.specs.Images.{IsImage}
+use Rattle.shard_book.specs.Grounds.{IsTail, grounds_of}
+use Rattle.shard_book.specs.Histories.{GoesOn}
+use Rattle.shard_book.specs.Shards.{IsLoadImage}
+use Rattle.host_loading.specs.Books.{ShardBook, histories_of}
+use Rattle.command_line.specs.Command.{IsStandby}
+use Rattle.line_blocks.specs.Answered.{WasRead}
+use Rattle.standby_node.specs.Standing.{IsReplicaBetween}
+use Rattle.line_serving.specs.Following.{TakesFeed, counts_text, in_doubt_after}
+use Rattle.line_serving.specs.declared.follower.Followed.{Followed}
+use Rattle.line_serving.specs.declared.follower.Followed.TheVariants.{ReadFault, TooLong, BadFeed, StoreFault}
+use Rattle.desk_host.specs.Journals.{old_name, journal_name}
+use Rattle.desk_host.specs.Kept.{WasJournal}
+use Rattle.desk_host.specs.Lawful.{IsLawful}
+use Rattle.desk_host.specs.Left.{CrashSince, StaysAsOpened}
+use Rattle.desk_host.specs.SeenStores.{Logged, SeenStore, SeenJournals}
+use Rattle.issuer_top.specs.Opened.{OpenedConfigOnly, OpenedBothInputs, FailsToOpen}
+use Rattle.issuer_top.specs.PinChanges.{SaysIssuer}
+use Rattle.issuer_top.specs.ReadAgain.{StayLoaded}
+use Rattle.issuer_top.specs.Seen.{Seen, SeenInput}
+
+-- the words are the command to take a feed, with this feed and this name of journals, and the configuration says this
+-- issuer
+pub record IsStandingBy (seen : Seen) (feed journal : List ℕ) (issuer : Setup) : Type 0 where
+  pub config : List ℕ
+  pub command : IsStandby seen.words config feed journal
+  pub said : SaysIssuer seen config issuer
+
+-- ---- the journals
+
+-- what a crash may leave since the journal was opened at this moment: an image of its load, after the old history for
+-- the first one; or the text of a history between the first and the last, possibly with a torn record after it
+abbrev pub IsReplicaImage : Setup → ℕ → List Entry → List Entry → List Entry → Moment → List ℕ → Type 0
+IsReplicaImage issuer shard old first last opened image =
+    IsLoadImage old first opened image ⊎ IsReplicaBetween issuer shard first last image
+
+-- the journal of a shard was that of the first book, and is the text of this history, which extends the book's. If its
+-- next record is in doubt, its store counted a fault, and a prefix of the text of a valid successor may follow. The old
+-- journal stays as it was
+pub record KeepsReplica (issuer : Setup) (shard : ℕ) (old_held held : Option (List ℕ)) (first : ShardBook)
+    (history : List Entry) (in_doubt : Bool) (old_store store : SeenStore) : Type 0 where
+  pub old : List Entry
+  pub was : WasJournal issuer shard old_held held old first
+  pub old_stays : StaysAsOpened old_held old_store
+  pub old_no_fault : old_store.faults ≡ 0
+  pub extended : GoesOn first.history history
+  pub tail : List ℕ
+  pub tail_is : IsTail (grounds_of issuer) shard history tail
+  pub bytes_are : IfSome store.bytes (IsImage (journal_text history) tail)
+  pub doubted : MatchBool in_doubt (0 < store.faults) ((tail ≡ []) × (store.faults ≡ 0))
+  pub crash_since : IfSome store.disk (CrashSince (IsReplicaImage issuer shard old first.history history) held)
+
+-- the journal of each shard, of which the desk told by the name that the words give, was that of its first book and is
+-- that of its history
+pub record KeepReplicas (issuer : Setup) (prefix : List ℕ) (logs : Logged) (journals : SeenJournals) (first : List ShardBook)
+    (histories : List (List Entry)) (in_doubt : ℕ → Bool) : Type 0 where
+  pub olds_are : length journals.olds ≡ issuer.shards
+  pub stores_are : length journals.stores ≡ issuer.shards
+  pub first_are : length first ≡ issuer.shards
+  pub histories_are : length histories ≡ issuer.shards
+  pub each : (shard : ℕ) (was : ShardBook) (history : List Entry) (old store : SeenStore)
+      → slice_get first shard ≡ Some was → slice_get histories shard ≡ Some history
+      → slice_get journals.olds shard ≡ Some old → slice_get journals.stores shard ≡ Some store
+      → KeepsReplica issuer shard (logs (old_name prefix shard)) (logs (journal_name prefix shard)) was history
+      (in_doubt shard) old store
+
+-- the journals that the desk told of were those of these books
+pub record WereJournals (issuer : Setup) (prefix : List ℕ) (logs : Logged) (first : List ShardBook) : Type 0 where
+  pub count_is : length first ≡ issuer.shards
+  pub each : (shard : ℕ) (was : ShardBook) → slice_get first shard ≡ Some was
+      → (old : List Entry) × WasJournal issuer shard (logs (old_name prefix shard))
+      (logs (journal_name prefix shard)) old
+      was
+
+-- the journals were loaded for a standby, and are as loading left them
+pub record LoadsToStandBy (seen : Seen) : Type 0 where
+  pub feed : List ℕ
+  pub journal : List ℕ
+  pub issuer : Setup
+  pub set_up : IsStandingBy seen feed journal issuer
+  pub stay : StayLoaded issuer journal seen.desk.logs seen.journals
+
+-- the feed was taken, up to this end: what it makes of the histories that were loaded is what the journals hold
+pub record StandsBy (followed : Followed) (seen : Seen) : Type 0 where
+  pub feed : List ℕ
+  pub journal : List ℕ
+  pub issuer : Setup
+  pub set_up : IsStandingBy seen feed journal issuer
+  pub opened : OpenedBothInputs seen
+  pub input : SeenInput
+  pub input_is : seen.requests ≡ Some input
+  pub file : List ℕ
+  pub read : List ℕ
+  pub held : Tells (seen.desk.tells feed) (Some file)
+  pub was_read : WasRead file read input.left
+  pub first : List ShardBook
+  pub lawful : IsLawful issuer first first
+  pub histories : List (List Entry)
+  pub takes : TakesFeed issuer (histories_of first) file read followed histories
+  pub kept : KeepReplicas issuer journal seen.desk.logs seen.journals first histories (in_doubt_after followed)
+
+-- ---- the ways to end
+
+-- status 0: the feed was read to its end, and the shards' numbers of records were written; at status 4 they were due
+pub record HasStoodBy (followed : Followed) (seen : Seen) (text : List ℕ) : Type 0 where
+  pub stands : StandsBy followed seen
+  pub text_is : text ≡ counts_text stands.histories
+
+-- status 3: the desk failed at the feed's name, once the journals were loaded
+pub record CannotOpenFeed (seen : Seen) (text : List ℕ) : Type 0 where
+  pub loaded : LoadsToStandBy seen
+  pub fails : FailsToOpen seen loaded.feed true
+  pub told : text ≡ stop_text ReadStop
+
+-- status 3: the feed failed while it was read, and the whole lines of what was read were taken
+pub record CannotReadFeed (seen : Seen) (text : List ℕ) : Type 0 where
+  pub stands : StandsBy ReadFault seen
+  pub failed : 0 < stands.input.faults
+  pub last : text ≡ stop_text ReadStop
+
+-- status 5: the store of this shard failed at its next record; the lines before that record's were taken
+pub record CannotTake (shard : ℕ) (seen : Seen) (text : List ℕ) : Type 0 where
+  pub stands : StandsBy (StoreFault shard) seen
+  pub last : text ≡ stop_text (StoreStop shard)
+
+-- status 7: no memory was left for a standby, once the journals were loaded and before the feed was opened
+pub record CannotStandBy (seen : Seen) (text : List ℕ) : Type 0 where
+  pub loaded : LoadsToStandBy seen
+  pub opened : OpenedConfigOnly seen
+  pub told : text ≡ stop_text NoMemory
+
+-- status 8: a byte of the feed past a limit was read, in the line of this number, and the lines before were taken
+pub record IsFeedTooLong (number : ℕ) (seen : Seen) (text : List ℕ) : Type 0 where
+  pub stands : StandsBy (TooLong number) seen
+  pub last : text ≡ stop_text (LongStop number)
+
+-- status 11: the line of this number is the first bad one of the feed, and the lines before were taken
+pub record HasBadLine (number : ℕ) (seen : Seen) (text : List ℕ) : Type 0 where
+  pub stands : StandsBy (BadFeed number) seen
+  pub last : text ≡ stop_text (FeedStop number)

@@ -1,0 +1,9 @@
+-- The lemmas of this crate, lowest first.
+pub mod Parts
+pub mod Reading
+pub mod Filed
+pub mod LegalTexts
+pub mod Exact
+pub mod FiledStores
+pub mod Exported
+pub mod ExportedStores

@@ -1,0 +1,107 @@
+-- What taking a feed makes of a standby's shards and writes, by how it ended.
+use Rattle.std.specs.Prelude.{◌≡◌, ℕ, Bool, ◌==◌, true, false, List, [], length, Option, Result, Ok, Err}
+use Rattle.std.specs.List.{enumerate_from, flat_map}
+use Rattle.std.specs.Io.KnownBytes.{Appends}
+use Rattle.issuer_base.specs.declared.entry.Entry.{Entry}
+use Rattle.issuer_base.specs.declared.outside.store.Store.{Ghosts}
+use Rattle.issuer_base.specs.Sink.{AppendsFront}
+use Rattle.issuer_base.specs.Tells.{Tells}
+use Rattle.answer_text.specs.CountText.{count_text}
+use Rattle.issuer_setup.specs.IssuerSetup.{Setup}
+use Rattle.line_reader.specs.Lines.{lines}
+use Rattle.line_reader.specs.Reading.{IsWithinLimits, unread}
+use Rattle.line_blocks.specs.Answered.{WasRead, AreLinesBefore}
+use Rattle.standby_node.specs.declared.line.FeedFault.{FeedFault}
+use Rattle.standby_node.specs.declared.line.FeedFault.TheVariants.{BadFeed as BadLine, StoreFault as StoreFails}
+use Rattle.standby_node.specs.declared.standby.Standby.{Standby}
+use Rattle.standby_node.specs.FeedLines.{IsNext}
+use Rattle.standby_node.specs.Standing.{Hold, LeavesBetween, shards_in}
+use Rattle.standby_node.specs.Streams.{StopsAt, StopsBadly, TakesLines, TakesStream}
+use Rattle.line_serving.specs.declared.follower.Followed.{Followed}
+use Rattle.line_serving.specs.declared.follower.Followed.TheVariants.{All, ReadFault, WriteFault, TooLong, BadFeed, StoreFault}
+use Rattle.line_serving.specs.declared.follower.Follower.{Follower}
+
+-- it has read nothing, and no text is due
+pub record IsNew (follower : Follower) : Type 0 where
+  pub reads_first : follower.reader ≡ unread
+  pub none_due : follower.block.text.items ≡ []
+  pub no_lines : follower.block.lines ≡ 0
+
+-- ---- what is taken
+
+-- the feed is within the limits, and its whole lines make these histories; a torn last line doesn't count
+pub record TakesFile (issuer : Setup) (opening : List (List Entry)) (file : List ℕ) (histories : List (List Entry))
+    : Type 0 where
+  pub within : IsWithinLimits (length (lines file)) (length file)
+  pub taken : TakesStream issuer opening file histories
+
+-- a byte past a limit was read, in the line of this number, and the lines before it make these histories
+pub record TakesBefore (issuer : Setup) (opening : List (List Entry)) (read : List ℕ) (number : ℕ)
+    (histories : List (List Entry)) : Type 0 where
+  pub before : List (List ℕ)
+  pub are_before : AreLinesBefore number read before
+  pub taken : TakesLines issuer opening before histories
+
+-- a line has the next record of this shard, whose store failed at it; the lines before it make these histories
+pub record StopsAtRecord (issuer : Setup) (opening : List (List Entry)) (read : List ℕ) (shard : ℕ)
+    (histories : List (List Entry)) : Type 0 where
+  pub number : ℕ
+  pub line : List ℕ
+  pub history : List Entry
+  pub entry : Entry
+  pub stops : StopsAt issuer opening read number line histories
+  pub next : IsNext issuer histories line shard history entry
+
+-- what the feed makes of the opening histories, by how taking it ended: all of it was read; or a part was, and its
+-- whole lines were taken, or those before the one in hand
+abbrev pub TakesFeed : Setup → List (List Entry) → List ℕ → List ℕ → Followed → List (List Entry) → Type 0
+TakesFeed issuer opening file read All histories = (read ≡ file) × TakesFile issuer opening file histories
+TakesFeed issuer opening file read WriteFault histories = (read ≡ file) × TakesFile issuer opening file histories
+TakesFeed issuer opening file read ReadFault histories = TakesStream issuer opening read histories
+TakesFeed issuer opening file read (TooLong number) histories = TakesBefore issuer opening read number histories
+TakesFeed issuer opening file read (BadFeed number) histories = StopsBadly issuer opening read number histories
+TakesFeed issuer opening file read (StoreFault shard) histories = StopsAtRecord issuer opening read shard histories
+
+-- whether the next record of this shard is in doubt: its store failed at it
+abbrev pub in_doubt_after : Followed → ℕ → Bool
+in_doubt_after (StoreFault shard) number = number == shard
+in_doubt_after _ number = false
+
+-- a feed was read and taken: what of it, the histories that the shards hold now, and what a crash meanwhile may leave
+pub record FollowsFeed {S : Type 0} {G : Ghosts S} (issuer : Setup) (opening : List (List Entry))
+    (was now : Option (List ℕ)) (old new : Standby S G) (followed : Followed) (histories : List (List Entry))
+    : Type 0 where
+  pub file : List ℕ
+  pub read : List ℕ
+  pub content : Tells was file
+  pub was_read : WasRead file read now
+  pub takes : TakesFeed issuer opening file read followed histories
+  pub hold : Hold issuer (in_doubt_after followed) (shards_in new) histories
+  pub leaves : LeavesBetween issuer opening histories (shards_in old) (shards_in new)
+
+-- the fault of the standby, where there was one
+abbrev pub fault_of : Followed → Result (Unit {0}) FeedFault
+fault_of (BadFeed number) = Err (BadLine number)
+fault_of (StoreFault shard) = Err (StoreFails shard)
+fault_of _ = Ok tt
+
+-- ---- what is written
+
+-- for each shard its number and how many records it has
+abbrev pub counts_text : List (List Entry) → List ℕ
+counts_text histories = flat_map (λ numbered. count_text numbered.0 (length numbered.1)) (enumerate_from 0 histories)
+
+-- the numbers of records were written, or a prefix of them, or nothing, by how taking the feed ended
+abbrev pub WritesCounts : Followed → Option (List ℕ) → Option (List ℕ) → List ℕ → Type 0
+WritesCounts All held_before held_after text = Appends held_before held_after text
+WritesCounts WriteFault held_before held_after text = AppendsFront held_before held_after text
+WritesCounts _ held_before held_after text = held_after ≡ held_before
+
+-- whether the feed failed, and whether the sink did
+abbrev pub read_failed : Followed → Bool
+read_failed ReadFault = true
+read_failed _ = false
+
+abbrev pub write_failed : Followed → Bool
+write_failed WriteFault = true
+write_failed _ = false

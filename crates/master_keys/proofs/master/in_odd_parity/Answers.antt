@@ -1,9 +1,0 @@
--- One more byte is set to odd parity.
-use Rattle.std.proofs.Common.{arith}
-use Rattle.master_keys.specs.MasterKey.{with_odd_parity}
-use Rattle.master_keys.proofs.Blocks.{map-over}
-use Rattle.master_keys.proofs.master.in_odd_parity.Goals as goal
-
-pub loop-byte-preserved : goal.loop-byte-preserved
-loop-byte-preserved c = map-over with_odd_parity c.args.key.0 c.loop-byte.byte-items c.loop-byte.byte-index _
-    (omega arith) c.loop-byte.invariant c.with_odd_parity.ensures

@@ -1,8 +1,0 @@
--- No shard so far has a fault.
-use Rattle.std.proofs.Common.{◌≡◌, None}
-use Rattle.std.specs.List.{AllWithin}
-use Rattle.one_caller.specs.Slots.{fault_in}
-use Rattle.one_caller.proofs.loading_together.first_failed.Given as goal
-
-abbrev pub invariant-loop-number : goal.invariant-loop-number
-invariant-loop-number g l = AllWithin (λ slot. fault_in slot ≡ None) l.slots 0 l.number

@@ -1,3 +1,0 @@
--- The lemmas of this crate, lowest first.
-pub mod Parts
-pub mod Reading

@@ -1,2 +1,0 @@
--- The definitions that the law of every restart cites.
-pub mod Restarts

@@ -1,5 +1,0 @@
--- The lemmas of this crate.
-pub mod EndingSteps
-pub mod Statuses
-pub mod OverJournals
-pub mod InOrder

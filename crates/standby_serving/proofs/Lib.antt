@@ -1,4 +1,0 @@
--- The lemmas of this crate, lowest first.
-mod KeptLines
-mod Feeding
-mod Counts

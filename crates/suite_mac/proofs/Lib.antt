@@ -1,3 +1,0 @@
--- The laws of this crate.
-pub mod Suites
-pub mod Lengths
