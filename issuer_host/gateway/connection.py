@@ -1,0 +1,251 @@
+"""A peer's connection: frames in, responses out. It holds a buffer of two frames, and the messages in flight."""
+
+import asyncio
+import datetime
+from collections.abc import Callable
+from typing import Optional, Protocol, cast
+
+from issuer_host import answers
+from issuer_host.gateway import requests, responses, table
+from issuer_host.gateway.figures import Figures
+from issuer_host.gateway.frames import BadFrame, FrameBuffer, frame_of
+from issuer_host.gateway.log import Limited
+from issuer_host.gateway.message import Codec, Message, Unreadable, Unwritable
+from issuer_host.gateway.requests import RequestLine
+from issuer_host.masks import masked
+
+# Answers that a peer doesn't read are buffered up to so many bytes; then nothing more is read from it.
+WRITE_BYTES = 1 << 16
+
+
+class Limits(Protocol):
+    """What bounds a connection."""
+
+    frame: int
+    of_connection: int
+    frame_seconds: float
+    idle_seconds: float
+
+
+class Owner(Protocol):
+    """The gateway, as a connection sees it."""
+
+    limits: Limits
+    figures: Figures
+    is_stopping: bool
+    limited: Limited
+
+    def begun(self, connection: "Connection") -> bool:
+        """Whether there is room for this connection."""
+
+    def ended(self, connection: "Connection", why: str) -> None:
+        """Forgets a connection."""
+
+    def has_room(self, connection: "Connection") -> bool:
+        """Whether one more message may be in flight. If not, the connection is told when it may."""
+
+    def ask(self, line: RequestLine, then: Callable[[Optional[str]], None]) -> None:
+        """Asks a host."""
+
+
+class Connection(asyncio.BufferedProtocol):
+    """A connection in a dialect."""
+
+    def __init__(self, owner: Owner, codec: Codec, loop: asyncio.AbstractEventLoop) -> None:
+        self.owner, self.codec, self.dialect, self.loop = owner, codec, codec.dialect, loop
+        self.buffer = FrameBuffer(self.dialect, owner.limits.frame)
+        self.transport: Optional[asyncio.Transport] = None
+        self.in_flight = 0
+        self.unsent: list[bytes] = []
+        # Whether the peer reads, the socket is read, more frames are taken.
+        self.is_stuck = self.is_paused = self.is_closing = False
+        self.why = "by the peer"
+        # When the last byte came, since when the peer doesn't read, and since when a frame isn't whole.
+        self.heard = self.stuck_since = loop.time()
+        self.torn_since: Optional[float] = None
+
+    # The transport's calls
+
+    def connection_made(self, transport: asyncio.BaseTransport) -> None:
+        self.transport = cast(asyncio.Transport, transport)
+        self.transport.set_write_buffer_limits(high=WRITE_BYTES)
+        if not self.owner.begun(self):
+            self.abort("too many connections")
+
+    def get_buffer(self, sizehint: int) -> memoryview:
+        return self.buffer.room()
+
+    def buffer_updated(self, nbytes: int) -> None:
+        self.buffer.filled(nbytes)
+        self.heard = self.loop.time()
+        self.take()
+
+    def eof_received(self) -> bool:
+        """The peer sends no more. It still gets the answers to what it sent."""
+        self.close_after_answers("by the peer" if self.buffer.is_empty else "a torn frame")
+        # (TLS has no half of a connection)
+        return self.transport is not None and self.transport.get_extra_info("sslcontext") is None
+
+    def pause_writing(self) -> None:
+        self.is_stuck, self.stuck_since = True, self.loop.time()
+        self.set_paused(True)
+
+    def resume_writing(self) -> None:
+        self.is_stuck = False
+        self.take()
+
+    def connection_lost(self, exc: Optional[Exception]) -> None:
+        self.transport, self.is_closing = None, True
+        self.owner.ended(self, self.why)
+
+    # Messages in
+
+    def take(self) -> None:
+        """Takes frames while there is room for them in flight, and reads on if all were taken."""
+        while not self.is_stuck and not self.is_closing:
+            if self.in_flight >= self.owner.limits.of_connection or not self.owner.has_room(self):
+                self.set_paused(True)
+                return
+            try:
+                data = self.buffer.next()
+            except BadFrame as fault:
+                self.close_after_answers("a bad frame", str(fault))
+                return
+            if data is None:
+                self.wait_for_more()
+                return
+            self.torn_since = None
+            self.handle(data)
+
+    def wait_for_more(self) -> None:
+        if self.owner.is_stopping:
+            self.close_after_answers("the gateway ends")
+            return
+        self.torn_since = None if self.buffer.is_empty else self.torn_since or self.heard
+        self.set_paused(False)
+
+    def set_paused(self, is_paused: bool) -> None:
+        if self.transport is None or self.transport.is_closing() or self.is_paused == is_paused:
+            return
+        self.is_paused = is_paused
+        if is_paused:
+            self.transport.pause_reading()
+        else:
+            self.transport.resume_reading()
+
+    def handle(self, data: bytes) -> None:
+        began = self.loop.time()
+        try:
+            message = self.codec.unpack(data)
+        except Unreadable as fault:
+            self.owner.figures.unreadable += 1
+            self.owner.limited.tell(f"a message can't be read: {fault.why}")
+            if fault.so_far is None:
+                self.close_after_answers("no message")
+            elif table.what_to_do(fault.so_far.kind) != table.PASS_OVER:
+                self.respond(responses.settled(self.dialect, fault.so_far, table.BAD_FORMAT), began)
+            return
+        what = table.what_to_do(message.kind)
+        self.owner.figures.count("messages", ("what", what))
+        if what == table.DECIDE:
+            self.decide(message, began)
+        elif what == table.ECHO:
+            self.respond(responses.network_response(self.dialect, message), began)
+        elif what == table.DECLINE:
+            self.respond(responses.settled(self.dialect, message, table.UNSUPPORTED), began)
+
+    def decide(self, message: Message, began: float) -> None:
+        line = requests.line_of(self.dialect, message, datetime.date.today())
+        if not isinstance(line, RequestLine):
+            self.owner.limited.tell(f"a message of type {message.kind} is answered without a host: {line.why}")
+            self.respond(responses.settled(self.dialect, message, line.outcome), began)
+            return
+        pan = line.pan
+
+        def answered(answer: Optional[str]) -> None:
+            self.in_flight -= 1
+            self.owner.figures.in_flight -= 1
+            if answer is None:
+                self.respond(responses.settled(self.dialect, message, table.NO_DECISION), began)
+            else:
+                self.flag(answer, pan)
+                self.respond(responses.answered(self.dialect, message, answer), began)
+            self.go_on()
+
+        self.in_flight += 1
+        self.owner.figures.in_flight += 1
+        self.owner.ask(line, answered)
+
+    def flag(self, answer: str, pan: str) -> None:
+        """Tells of an answer for which somebody has to look at the card, or at the configuration."""
+        kind = answers.kind_of(answer)
+        if kind.word == answers.REFUSED and table.refusal_of(kind.refusal) in table.FLAGGED:
+            self.owner.limited.tell(f"refused {kind.refusal}: card {masked(pan)}")
+
+    def go_on(self) -> None:
+        if self.is_closing:
+            self.close_if_answered()
+        elif self.is_paused:
+            self.loop.call_soon(self.take)
+
+    # Responses out
+
+    def respond(self, message: Message, began: float) -> None:
+        try:
+            data = self.codec.pack(message)
+        except Unwritable as fault:
+            self.owner.limited.tell(f"a response can't be written, and is a malfunction: {fault}")
+            code = table.MALFUNCTION.code[self.dialect.edition]
+            message = Message(
+                message.kind, {it: message.elements[it] for it in self.dialect.echo if it in message.elements}
+            )
+            message.elements[table.CODE] = code
+            data = self.codec.pack(message)
+        self.owner.figures.responded(str(message.elements[table.CODE]), self.loop.time() - began)
+        if self.transport is None:
+            return
+        if not self.unsent:
+            self.loop.call_soon(self.send)
+        self.unsent.append(frame_of(self.dialect, data))
+
+    def send(self) -> None:
+        """Writes all responses of a moment at once."""
+        if self.transport is not None and self.unsent:
+            self.transport.write(b"".join(self.unsent))
+        self.unsent.clear()
+        self.close_if_answered()
+
+    # The end
+
+    def close_after_answers(self, why: str, said: str = "") -> None:
+        """Reads no more, answers what is in flight, and closes."""
+        if said:
+            self.owner.limited.tell(f"a connection is closed: {said}")
+        if not self.is_closing:
+            self.is_closing, self.why = True, why
+        self.set_paused(True)
+        self.close_if_answered()
+
+    def close_if_answered(self) -> None:
+        if self.is_closing and not self.in_flight and not self.unsent and self.transport is not None:
+            self.transport.close()
+
+    def abort(self, why: str) -> None:
+        self.is_closing, self.why = True, why
+        if self.transport is not None:
+            self.transport.abort()
+
+    def look(self, now: float) -> None:
+        """Ends a connection whose peer doesn't read, leaves a frame torn, or is idle. It is called every second."""
+        limits = self.owner.limits
+        if self.is_stuck:
+            if now - self.stuck_since > limits.frame_seconds:
+                self.abort("the peer doesn't read")
+        elif self.is_closing and now - self.heard > 2 * limits.frame_seconds and not self.in_flight:
+            self.abort(self.why)
+        elif self.is_paused or self.in_flight or self.is_closing:
+            pass
+        elif self.torn_since is not None and now - self.torn_since > limits.frame_seconds:
+            self.close_after_answers("a torn frame")
+        elif limits.idle_seconds and now - self.heard > limits.idle_seconds:
+            self.close_after_answers("idle")

@@ -1,0 +1,169 @@
+"""The gateway's figures, in Prometheus' text form on the loopback.
+
+Figures of hosts that the gateway starts itself have the names that a bridge's have, so the same alerts see them.
+"""
+
+import asyncio
+import os
+from collections.abc import Iterator, Mapping
+from typing import Callable, Union
+
+from issuer_host.answers import DECISIONS, REFUSED, Kind
+from issuer_host.gateway.table import REFUSALS
+from issuer_host.journals import journals_of
+
+SECONDS = (0.001, 0.002, 0.005, 0.01, 0.02, 0.05, 0.1, 0.2, 0.5, 1, 2, 5, 10, 30)
+REQUEST_SECONDS, REQUEST_BYTES = 5.0, 4096
+HEAD = "HTTP/1.1 {status}\r\nContent-Type: text/plain; version=0.0.4; charset=utf-8\r\nContent-Length: {length}\r\n"
+END = "Connection: close\r\n\r\n"
+
+# The gateway's own, all counters but three.
+OWN = {
+    "messages": "Messages by what was done with them",
+    "responses": "Responses by the code in element 39",
+    "unreadable": "Frames that are no message of their dialect",
+    "expired": "Messages whose time limit passed before the host's answer",
+    "late": "Answers that came after the time limit, and were dropped",
+    "retries": "Lines that were put again after refused 12 or 15",
+    "connections_begun": "Connections that were taken",
+    "connections_ended": "Ends of connections by their cause",
+    "connections": "Connections that are open",
+    "in_flight": "Messages that aren't answered yet",
+    "hosts_up": "Partitions whose host can be asked",
+}
+GAUGES = ("connections", "in_flight", "hosts_up")
+# Of hosts that the gateway starts: by partition, as a bridge has them.
+OF_HOSTS = {
+    "answers": ("counter", "Answers by kind; a refusal has its number"),
+    "host_starts": ("counter", "Starts of the host"),
+    "host_ends": ("counter", "Ends of the host by status; a signal is negative"),
+    "active": ("gauge", "1 if the partition's host answers"),
+    "lines_in_flight": ("gauge", "Lines that have no answer yet"),
+    "oldest_line_seconds": ("gauge", "Age of the oldest line in flight"),
+    "journal_bytes": ("gauge", "Bytes of the partition's journals"),
+    "journal_disk_free_bytes": ("gauge", "Free bytes of the journals' disk"),
+}
+
+Labels = tuple[tuple[str, str], ...]
+Number = Union[int, float]
+
+
+class Figures:
+    """Counts since the start, and what is measured when somebody asks."""
+
+    def __init__(self, partitions: int, has_hosts: bool = True) -> None:
+        self.late = self.expired = self.retries = self.unreadable = self.connections_begun = 0
+        self.connections = self.in_flight = 0
+        self.labelled: dict[str, dict[Labels, Number]] = {
+            name: {} for name in ("messages", "responses", "connections_ended", *OF_HOSTS)
+        }
+        self.has_hosts, self.host_up = has_hosts, [0] * partitions
+        # Sets the gauges of hosts.
+        self.measure: Callable[[], None] = lambda: None
+        self.buckets = [0] * (len(SECONDS) + 1)
+        self.seconds = 0.0
+        # (a rate sees no first event of a counter that begins with it)
+        for partition in range(partitions):
+            self.labelled["host_starts"][of_partition(partition)] = 0
+            for kind in [*map(Kind, DECISIONS), *(Kind(REFUSED, str(int(it))) for it in REFUSALS)]:
+                self.labelled["answers"][labels_of(partition, kind)] = 0
+
+    @property
+    def hosts_up(self) -> int:
+        return sum(self.host_up)
+
+    def count(self, name: str, *labels: tuple[str, str]) -> None:
+        counts = self.labelled[name]
+        counts[labels] = counts.get(labels, 0) + 1
+
+    def set(self, name: str, partition: int, value: Number) -> None:
+        self.labelled[name][of_partition(partition)] = value
+
+    def answered(self, partition: int, kind: Kind) -> None:
+        self.count("answers", *labels_of(partition, kind))
+
+    def responded(self, code: str, seconds: float) -> None:
+        self.count("responses", ("code", code))
+        self.seconds += seconds
+        for at, bound in enumerate(SECONDS):
+            if seconds <= bound:
+                self.buckets[at] += 1
+                return
+        self.buckets[-1] += 1
+
+    def look_at_disk(self, partition: int, journal: str) -> None:
+        """Measures the journals and their disk."""
+        try:
+            self.set("journal_bytes", partition, sum(map(os.path.getsize, journals_of(journal))))
+            found = os.statvfs(os.path.dirname(journal) or ".")
+            self.set("journal_disk_free_bytes", partition, found.f_bavail * found.f_frsize)
+        except OSError:
+            # (the host says what is wrong with them)
+            pass
+
+    def text(self) -> str:
+        return "".join(f"{line}\n" for line in self.lines())
+
+    def lines(self) -> Iterator[str]:
+        for name, help_text in OWN.items():
+            ending, kind = ("", "gauge") if name in GAUGES else ("_total", "counter")
+            counts = self.labelled[name] if name in self.labelled else {(): getattr(self, name)}
+            yield from block_of(f"issuer_gateway_{name}{ending}", kind, help_text, counts)
+        yield from self.histogram()
+        if self.has_hosts:
+            self.measure()
+            for partition, is_up in enumerate(self.host_up):
+                self.set("active", partition, is_up)
+            for name, (kind, help_text) in OF_HOSTS.items():
+                ending = "_total" if kind == "counter" else ""
+                yield from block_of(f"issuer_{name}{ending}", kind, help_text, self.labelled[name])
+
+    def histogram(self) -> Iterator[str]:
+        name, total = "issuer_gateway_response_seconds", 0
+        buckets: dict[Labels, Number] = {}
+        for bound, count in zip((*map(str, SECONDS), "+Inf"), self.buckets):
+            total += count
+            buckets[(("le", bound),)] = total
+        yield from block_of(name, "histogram", "From a message to its response", {})
+        yield from lines_of(f"{name}_bucket", buckets)
+        yield f"{name}_sum {self.seconds:.6f}"
+        yield f"{name}_count {total}"
+
+
+def of_partition(partition: int) -> Labels:
+    return (("partition", str(partition)),)
+
+
+def labels_of(partition: int, kind: Kind) -> Labels:
+    return ("partition", str(partition)), ("kind", kind.word), ("refusal", kind.refusal)
+
+
+def block_of(name: str, kind: str, help_text: str, counts: Mapping[Labels, Number]) -> Iterator[str]:
+    yield f"# HELP {name} {help_text}"
+    yield f"# TYPE {name} {kind}"
+    yield from lines_of(name, counts)
+
+
+def lines_of(name: str, counts: Mapping[Labels, Number]) -> Iterator[str]:
+    for labels, count in counts.items():
+        words = ",".join(f'{label}="{value}"' for label, value in labels)
+        yield f"{name}{f'{{{words}}}' if words else ''} {count}"
+
+
+async def serve(figures: Figures, port: int) -> asyncio.AbstractServer:
+    """Serves the figures on the loopback."""
+
+    async def answer(reader: asyncio.StreamReader, writer: asyncio.StreamWriter) -> None:
+        try:
+            request = await asyncio.wait_for(reader.readuntil(b"\r\n\r\n"), REQUEST_SECONDS)
+            is_known = request.startswith((b"GET /metrics ", b"GET / "))
+            body = figures.text().encode() if is_known else b"GET /metrics\n"
+            head = HEAD.format(status="200 OK" if is_known else "404 Not Found", length=len(body))
+            writer.write((head + END).encode() + body)
+            await asyncio.wait_for(writer.drain(), REQUEST_SECONDS)
+        except (OSError, asyncio.IncompleteReadError, asyncio.LimitOverrunError, asyncio.TimeoutError):
+            pass
+        finally:
+            writer.close()
+
+    return await asyncio.start_server(answer, "127.0.0.1", port, limit=REQUEST_BYTES)

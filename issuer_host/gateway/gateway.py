@@ -1,0 +1,254 @@
+"""The gateway: its listeners, its connections and its hosts, from the first start to the end by SIGTERM."""
+
+import asyncio
+import functools
+import resource
+import signal
+import socket
+import ssl
+from collections.abc import Callable
+from dataclasses import dataclass
+from typing import Any, Optional, Protocol
+
+from issuer_host.gateway import figures as figures_of
+from issuer_host.gateway.connection import Connection
+from issuer_host.gateway.figures import Figures
+from issuer_host.gateway.log import NAME, Limited, tell
+from issuer_host.gateway.message import Codec
+from issuer_host.gateway.requests import RequestLine
+from issuer_host.gateway.traffic import Host, Traffic
+from issuer_host.service import notices
+from issuer_host.statuses import Status
+
+TICK_SECONDS, EXPIRE_SECONDS = 1.0, 0.02
+HANDSHAKE_SECONDS = 10.0
+BACKLOG = 1024
+# What the system buffers of a connection, each way.
+SOCKET_BYTES = 1 << 16
+# Files beside the connections: two pipes a host, listeners, the loop.
+OTHER_FILES = 128
+# How long hosts may take to end once they have no more lines.
+END_SECONDS = 5.0
+
+
+@dataclass
+class Bounds:
+    """What bounds the gateway's memory and time."""
+
+    frame: int = 4096
+    of_connection: int = 256
+    in_flight: int = 1024
+    connections: int = 2000
+    seconds: float = 5.0
+    frame_seconds: float = 10.0
+    idle_seconds: float = 900.0
+
+
+@dataclass(frozen=True)
+class Listener:
+    """An address at which a dialect is spoken."""
+
+    address: str
+    port: int
+    codec: Codec
+
+
+class Partition(Host, Protocol):
+    """A host that the gateway starts and ends."""
+
+    tried: "asyncio.Future[None]"
+    ended: "asyncio.Future[None]"
+    refusal: Optional[int]
+
+    def start(self) -> None:
+        """Begins to answer."""
+
+    def look(self) -> None:
+        """Is called every second."""
+
+    def measure(self) -> None:
+        """Sets what is measured of its journals."""
+
+    def stop(self) -> None:
+        """Ends in order."""
+
+
+class Gateway:
+    """All of it."""
+
+    def __init__(
+        self, loop: asyncio.AbstractEventLoop, partitions: int, bounds: Bounds, is_ordered: bool, has_hosts: bool
+    ) -> None:
+        """`is_ordered`: whether the hosts keep the order of a card's lines; `has_hosts`: whether they are its own."""
+        self.loop, self.limits = loop, bounds
+        self.figures, self.limited = Figures(partitions, has_hosts), Limited()
+        self.figures.measure = self.measure
+        self.traffic = Traffic(loop, bounds.seconds, is_ordered, self.figures)
+        self.hosts: list[Partition] = []
+        self.servers: list[asyncio.AbstractServer] = []
+        self.connections: set[Connection] = set()
+        # Connections that have more messages, in the order in which they came to wait.
+        self.waiting: dict[Connection, None] = {}
+        self.is_stopping = self.is_resuming = False
+        self.stopped = asyncio.Event()
+
+    # What connections call
+
+    def begun(self, connection: Connection) -> bool:
+        if len(self.connections) >= self.limits.connections or self.is_stopping:
+            return False
+        self.connections.add(connection)
+        self.figures.connections_begun += 1
+        self.figures.connections = len(self.connections)
+        return True
+
+    def ended(self, connection: Connection, why: str) -> None:
+        self.connections.discard(connection)
+        self.waiting.pop(connection, None)
+        self.figures.connections = len(self.connections)
+        self.figures.count("connections_ended", ("why", why))
+
+    def has_room(self, connection: Connection) -> bool:
+        if len(self.traffic.open) < self.limits.in_flight:
+            return True
+        self.waiting[connection] = None
+        return False
+
+    def ask(self, line: RequestLine, then: Callable[[Optional[str]], None]) -> None:
+        def answered(answer: Optional[str]) -> None:
+            then(answer)
+            if self.waiting and not self.is_resuming:
+                self.is_resuming = True
+                self.loop.call_soon(self.resume)
+
+        self.traffic.ask(line, answered)
+
+    def resume(self) -> None:
+        """Lets connections that wait take messages, in their order, while there is room."""
+        self.is_resuming = False
+        while self.waiting and len(self.traffic.open) < self.limits.in_flight:
+            following = next(iter(self.waiting))
+            del self.waiting[following]
+            following.take()
+
+    # From the start to the end
+
+    async def run(self, listeners: list[Listener], context: Optional[ssl.SSLContext], figures_port: int) -> int:
+        for number in (signal.SIGTERM, signal.SIGINT):
+            self.loop.add_signal_handler(number, self.stop)
+        raise_file_limit(self.limits)
+        await self.start_hosts()
+        refusals = [host.refusal for host in self.hosts]
+        if None not in refusals:
+            tell("no host can be started")
+            await self.end_hosts()
+            return Status.USAGE if refusals[0] == Status.WORDS else refusals[0] or Status.REFUSED
+        await self.listen(listeners, context, figures_port)
+        notices.notify(NAME, "READY=1")
+        self.tick()
+        self.expire()
+        await self.stopped.wait()
+        await self.drain()
+        return Status.OK
+
+    async def start_hosts(self) -> None:
+        """Starts all hosts, and waits until each is ready or has ended. A SIGTERM ends the wait."""
+        self.traffic.hosts = self.hosts
+        for host in self.hosts:
+            host.start()
+        stopped = self.loop.create_task(self.stopped.wait())
+        tried: set[asyncio.Future[None]] = {host.tried for host in self.hosts}
+        while tried and not self.is_stopping:
+            waited: set[asyncio.Future[Any]] = {stopped, *tried}
+            await asyncio.wait(waited, return_when=asyncio.FIRST_COMPLETED)
+            tried = {it for it in tried if not it.done()}
+        stopped.cancel()
+
+    async def listen(self, listeners: list[Listener], context: Optional[ssl.SSLContext], figures_port: int) -> None:
+        for it in listeners:
+            make = functools.partial(Connection, self, it.codec, self.loop)
+            seconds = HANDSHAKE_SECONDS if context else None
+            made = self.loop.create_server(
+                make, it.address, it.port, ssl=context, ssl_handshake_timeout=seconds, backlog=BACKLOG
+            )
+            server = await made
+            for taken in server.sockets:
+                # (what is taken from it has buffers of this size too)
+                taken.setsockopt(socket.SOL_SOCKET, socket.SO_SNDBUF, SOCKET_BYTES)
+                taken.setsockopt(socket.SOL_SOCKET, socket.SO_RCVBUF, SOCKET_BYTES)
+            self.servers.append(server)
+            port = server.sockets[0].getsockname()[1]
+            tell(f"{it.codec.dialect.name} on {it.address} port {port}{' by TLS' if context else ''}")
+        if figures_port:
+            try:
+                self.servers.append(await figures_of.serve(self.figures, figures_port))
+            except OSError as fault:
+                tell(f"no figures: {fault}")
+
+    def measure(self) -> None:
+        """Sets what is measured of hosts when somebody asks for figures."""
+        now, counts = self.loop.time(), [0] * len(self.hosts)
+        oldest = [0.0] * len(self.hosts)
+        for question in self.traffic.open.values():
+            counts[question.partition] += 1
+            oldest[question.partition] = max(oldest[question.partition], now - question.began)
+        for number, host in enumerate(self.hosts):
+            self.figures.set("lines_in_flight", number, counts[number])
+            self.figures.set("oldest_line_seconds", number, round(oldest[number], 3))
+            host.measure()
+
+    def tick(self) -> None:
+        self.loop.call_later(TICK_SECONDS, self.tick)
+        now = self.loop.time()
+        notices.notify(
+            NAME, f"WATCHDOG=1\nSTATUS={len(self.connections)} connections, {len(self.traffic.open)} messages in flight"
+        )
+        for host in self.hosts:
+            host.look()
+        for connection in list(self.connections):
+            connection.look(now)
+
+    def expire(self) -> None:
+        self.loop.call_later(EXPIRE_SECONDS, self.expire)
+        self.traffic.expire()
+
+    def stop(self) -> None:
+        """SIGTERM: takes no more connections and messages; what was taken is answered."""
+        self.is_stopping = True
+        self.stopped.set()
+
+    async def drain(self) -> None:
+        """Answers what is in flight, within its time limit, and ends connections and hosts."""
+        notices.notify(NAME, "STOPPING=1")
+        tell(f"ends: {len(self.traffic.open)} messages are in flight")
+        for server in self.servers:
+            server.close()
+        for connection in list(self.connections):
+            connection.take()
+        until = self.loop.time() + self.limits.seconds + TICK_SECONDS
+        while self.connections and self.loop.time() < until:
+            await asyncio.sleep(EXPIRE_SECONDS)
+        for connection in list(self.connections):
+            connection.abort("the gateway ends")
+        await self.end_hosts()
+
+    async def end_hosts(self) -> None:
+        for host in self.hosts:
+            host.stop()
+        await asyncio.wait([host.ended for host in self.hosts], timeout=END_SECONDS)
+
+
+def raise_file_limit(bounds: Bounds) -> None:
+    """Makes room for as many files as there may be connections, or takes fewer connections."""
+    needed = bounds.connections + OTHER_FILES
+    try:
+        soft, hard = resource.getrlimit(resource.RLIMIT_NOFILE)
+        most = needed if hard == resource.RLIM_INFINITY else min(needed, hard)
+        if soft != resource.RLIM_INFINITY and soft < most:
+            resource.setrlimit(resource.RLIMIT_NOFILE, (most, hard))
+    except (OSError, ValueError) as fault:
+        tell(f"the limit of open files can't be raised: {fault}")
+        return
+    if most < needed:
+        bounds.connections = max(most - OTHER_FILES, 1)
+        tell(f"{hard} files may be open, so {bounds.connections} connections are taken")

@@ -1,0 +1,77 @@
+"""Takes authorisation requests in ISO 8583 from switches, asks the hosts, and answers in ISO 8583.
+
+usage: gateway --config FILE --journal NAME [--partitions P] [--callers N] [--window N] [--program PATH] ..
+       gateway --broker-file FILE --partitions P ..
+
+By the first form it starts the hosts itself, each by issuer-run: one, or P of them, if FILE and NAME have {} where the
+partition's number goes. By the second form the hosts are behind the broker that FILE names.
+
+--listen         [ADDRESS:]PORT=DIALECT, as often as needed: a dialect is the name of a shipped one, or a file
+                 (8583=1987-ascii on the loopback)
+--tls-certificate, --tls-key, --tls-clients
+                 files in PEM: peers have to show a certificate of one of the last one's authorities
+--seconds        the time limit of a message (5). After it 91 or 907 is answered
+--in-flight      messages in flight (1024), --of-connection of one connection (256), --connections (2000),
+--frame          bytes of a message (4096), --frame-seconds for a torn frame, or for a peer that doesn't read (10),
+--idle-seconds   after which a silent connection is closed (900; 0: never)
+--callers        of each host (1), --window lines that a host has at a time (64)
+--figures        the port of Prometheus' figures on the loopback; none where it is 0 (0)
+
+docs/INTEGRATION.md says what becomes of each message. At SIGTERM it answers what it has taken, and ends with 0. It ends
+with a host's status if no host can be started, with 64 if its own arguments don't fit, and with 75 after what passes.
+"""
+
+import argparse
+import asyncio
+from collections.abc import Sequence
+
+from issuer_host.gateway import options as options_of
+from issuer_host.gateway.gateway import Gateway, Partition
+from issuer_host.gateway.log import tell
+from issuer_host.gateway.options import BadOptions
+from issuer_host.gateway.pipes import PipeHost, command_of
+from issuer_host.statuses import Status
+
+
+def main(words: Sequence[str]) -> int:
+    if list(words) in (["--help"], ["-h"]):
+        print(__doc__, end="")
+        return Status.OK
+    try:
+        return asyncio.run(run(words))
+    except BadOptions as wrong:
+        tell(str(wrong))
+        return Status.USAGE
+    except OSError as fault:
+        tell(f"{fault.filename or 'the address'}: {fault.strerror or fault}")
+        return Status.PASSES
+
+
+async def run(words: Sequence[str]) -> int:
+    options = options_of.parser_of(__doc__).parse_args(words)
+    listeners, bounds = options_of.listeners_of(options), options_of.bounds_of(options)
+    context = options_of.tls_of(options)
+    has_hosts = not options.broker_file
+    is_ordered = has_hosts and options.callers == 1
+    gateway = Gateway(asyncio.get_running_loop(), options.partitions, bounds, is_ordered, has_hosts)
+    gateway.hosts = brokered(gateway, options) if options.broker_file else pipe_hosts(gateway, options)
+    return await gateway.run(listeners, context, options.figures)
+
+
+def brokered(gateway: Gateway, options: argparse.Namespace) -> list[Partition]:
+    """The partitions behind the broker."""
+    try:
+        from issuer_host.gateway.brokered import brokered_hosts
+    except ImportError as fault:
+        raise BadOptions(f"behind a broker the gateway needs {fault.name}: install python3-pika") from fault
+    file, figures = options.broker_file, gateway.figures
+    return [*brokered_hosts(gateway.loop, options.partitions, file, gateway.traffic, figures)]
+
+
+def pipe_hosts(gateway: Gateway, options: argparse.Namespace) -> list[Partition]:
+    """A host by pipes for each partition."""
+    found: list[Partition] = []
+    for number, (config, journal) in enumerate(options_of.partition_files(options)):
+        command = command_of(config, journal, options.callers, options.program)
+        found.append(PipeHost(gateway.loop, number, command, journal, options.window, gateway.traffic, gateway.figures))
+    return found

@@ -1,0 +1,140 @@
+"""The gateway's command-line arguments."""
+
+import argparse
+import json
+import os
+import ssl
+from typing import NoReturn, Optional
+
+from issuer_host.gateway.dialect import BadDialect, Dialect, named, read_dialect
+from issuer_host.gateway.frames import GREATEST_FRAME
+from issuer_host.gateway.gateway import Bounds, Listener
+from issuer_host.gateway.message import Codec
+from issuer_host.paths import HOME
+
+DIALECTS = os.path.join(HOME, "deploy", "dialects")
+LISTEN = "8583=1987-ascii"
+LOOPBACK = "127.0.0.1"
+# The number of a partition in the names of its configuration and its journals.
+NUMBER = "{}"
+
+
+class BadOptions(Exception):
+    """Arguments that don't fit, and what to do."""
+
+
+def parser_of(usage: str) -> argparse.ArgumentParser:
+    bounds = Bounds()
+    parser = argparse.ArgumentParser(usage=usage, add_help=False)
+    parser.add_argument("--config")
+    parser.add_argument("--journal")
+    parser.add_argument("--partitions", type=int, default=1)
+    parser.add_argument("--callers", type=int, default=1)
+    parser.add_argument("--window", type=int, default=64)
+    parser.add_argument("--broker-file")
+    parser.add_argument("--listen", action="append")
+    parser.add_argument("--tls-certificate")
+    parser.add_argument("--tls-key")
+    parser.add_argument("--tls-clients")
+    parser.add_argument("--seconds", type=float, default=bounds.seconds)
+    parser.add_argument("--in-flight", type=int, default=bounds.in_flight)
+    parser.add_argument("--of-connection", type=int, default=bounds.of_connection)
+    parser.add_argument("--connections", type=int, default=bounds.connections)
+    parser.add_argument("--frame", type=int, default=bounds.frame)
+    parser.add_argument("--frame-seconds", type=float, default=bounds.frame_seconds)
+    parser.add_argument("--idle-seconds", type=float, default=bounds.idle_seconds)
+    parser.add_argument("--figures", type=int, default=0)
+    parser.add_argument("--program")
+    # (argparse ends with the status of a configuration)
+    parser.error = refuse  # type: ignore[assignment]
+    return parser
+
+
+def refuse(message: str) -> NoReturn:
+    raise BadOptions(message)
+
+
+def bounds_of(options: argparse.Namespace) -> Bounds:
+    found = Bounds(
+        frame=options.frame,
+        of_connection=options.of_connection,
+        in_flight=options.in_flight,
+        connections=options.connections,
+        seconds=options.seconds,
+        frame_seconds=options.frame_seconds,
+        idle_seconds=options.idle_seconds,
+    )
+    if not 64 <= found.frame <= GREATEST_FRAME:
+        raise BadOptions(f"--frame is 64 to {GREATEST_FRAME}")
+    if min(found.of_connection, found.in_flight, found.connections, options.window, options.partitions) < 1:
+        raise BadOptions("--of-connection, --in-flight, --connections, --window and --partitions are 1 at least")
+    if min(found.seconds, found.frame_seconds) <= 0 or found.idle_seconds < 0:
+        raise BadOptions("--seconds and --frame-seconds are above 0, and --idle-seconds 0 at least")
+    return found
+
+
+def listeners_of(options: argparse.Namespace) -> list[Listener]:
+    return [listener_of(text) for text in options.listen or [LISTEN]]
+
+
+def listener_of(text: str) -> Listener:
+    """The listener of `[ADDRESS:]PORT=DIALECT`."""
+    place, _, name = text.partition("=")
+    address, _, port = place.rpartition(":")
+    if not name or not port.isdecimal() or int(port) > 65535:
+        raise BadOptions(f"--listen is [ADDRESS:]PORT=DIALECT, and not {text}")
+    return Listener(address or LOOPBACK, int(port), Codec(dialect_of(name)))
+
+
+def dialect_of(name: str) -> Dialect:
+    try:
+        return read_dialect(named(name, DIALECTS))
+    except BadDialect as wrong:
+        shipped = ", ".join(sorted(it[: -len(".json")] for it in os.listdir(DIALECTS)))
+        raise BadOptions(f"{wrong}; shipped are {shipped}") from wrong
+
+
+def tls_of(options: argparse.Namespace) -> Optional[ssl.SSLContext]:
+    """TLS by which peers have to show a certificate, or None."""
+    given = options.tls_certificate, options.tls_key, options.tls_clients
+    if given == (None, None, None):
+        return None
+    if None in given:
+        raise BadOptions("TLS needs all three: --tls-certificate, --tls-key and --tls-clients")
+    try:
+        context = ssl.create_default_context(ssl.Purpose.CLIENT_AUTH, cafile=options.tls_clients)
+        context.load_cert_chain(options.tls_certificate, options.tls_key)
+    except (OSError, ssl.SSLError) as fault:
+        raise BadOptions(f"the certificates can't be used: {fault}") from fault
+    context.verify_mode = ssl.CERT_REQUIRED
+    context.minimum_version = ssl.TLSVersion.TLSv1_2
+    return context
+
+
+def partition_files(options: argparse.Namespace) -> list[tuple[str, str]]:
+    """The configuration and the journals' name of each partition."""
+    config, journal = options.config, options.journal
+    if not config or not journal:
+        raise BadOptions("give --config and --journal, or --broker-file")
+    has_numbers = NUMBER in config and NUMBER in journal
+    if options.partitions > 1 and not has_numbers:
+        raise BadOptions(f"with --partitions both names have {NUMBER} where the partition's number goes")
+    found = []
+    for number in range(options.partitions):
+        files = config.replace(NUMBER, str(number)), journal.replace(NUMBER, str(number))
+        check_partition(files[0], number, options.partitions)
+        found.append(files)
+    return found
+
+
+def check_partition(config: str, number: int, partitions: int) -> None:
+    """Refuses a configuration that was made for another number of partitions. The program judges the rest."""
+    try:
+        with open(config, encoding="utf-8") as text:
+            named_as = json.load(text).get("partition")
+    except OSError as fault:
+        raise BadOptions(f"the configuration {config} can't be read: {fault.strerror}") from fault
+    except (ValueError, AttributeError):
+        return
+    if named_as is not None and named_as != {"number": number, "of": partitions}:
+        raise BadOptions(f"{config} says that it is {named_as}, and this would be number {number} of {partitions}")

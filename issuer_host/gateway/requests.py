@@ -1,0 +1,143 @@
+"""A message as a request line, by the rows of the table. A message that becomes none has an outcome at once."""
+
+import datetime
+from typing import NamedTuple, Optional, Union
+
+from issuer_host.gateway import table
+from issuer_host.gateway.dialect import Dialect
+from issuer_host.gateway.message import SEPARATOR, Message
+from issuer_host.limits import MAX_OPTION_BYTES
+from issuer_host.request_lines import Torn, objects_of
+
+# Chip data of a line.
+MAX_CHIP_DATA = MAX_OPTION_BYTES
+HALF_A_YEAR = datetime.timedelta(days=183)
+TAG_PAN, TAG_PSN, TAG_AMOUNT, TAG_CURRENCY, TAG_TYPE = "5A", "5F34", "9F02", table.CURRENCY_TAG, "9C"
+# The tags of the table, by their bytes.
+TAGS = {bytes.fromhex(row.tag): row.tag for row in table.REQUEST_ROWS}
+
+
+class RequestLine(NamedTuple):
+    """A line, and the digits of its PAN: a card's lines go to one partition, one after another."""
+
+    line: str
+    pan: str
+
+
+class Settled(NamedTuple):
+    """A message that no host is asked about: its outcome, and why."""
+
+    outcome: table.Outcome
+    why: str
+
+
+class Disagreement(Exception):
+    """Elements that don't fit, and which."""
+
+
+def line_of(dialect: Dialect, message: Message, today: datetime.date) -> Union[RequestLine, Settled]:
+    """The request line of a message, or what it comes to without one."""
+    chip = message.elements.get(table.CHIP)
+    if not isinstance(chip, bytes) or not chip:
+        return Settled(table.UNSUPPORTED, "it has no chip data (element 55)")
+    of_chip = first_objects(chip)
+    try:
+        of_message = objects_beside(dialect, message, of_chip, today)
+        check_amount(of_message, of_chip)
+    except Disagreement as why:
+        return Settled(table.BAD_FORMAT, str(why))
+    if TAG_PAN not in of_message and TAG_PAN not in of_chip:
+        return Settled(table.BAD_FORMAT, "it has no PAN: neither elements 2 and 35 nor tag 5A")
+    added = [(tag, value) for tag, value in of_message.items() if tag not in of_chip]
+    data = b"".join(bytes.fromhex(tag) + bytes([len(value)]) + value for tag, value in added) + chip
+    if len(data) > MAX_CHIP_DATA:
+        return Settled(table.BAD_FORMAT, f"its chip data have {len(data)} bytes, and {MAX_CHIP_DATA} are the most")
+    pan = of_chip[TAG_PAN] if TAG_PAN in of_chip else of_message[TAG_PAN]
+    return RequestLine(f"A {data.hex()}", pan.hex().rstrip("f"))
+
+
+def first_objects(chip: bytes) -> dict[str, bytes]:
+    """The first object of each tag that a line's own objects have, up to one that is torn: the host refuses that."""
+    found: dict[str, bytes] = {}
+    try:
+        for tag, value in objects_of(chip):
+            name = TAGS.get(tag)
+            if name is not None:
+                found.setdefault(name, value)
+    except Torn:
+        pass
+    return found
+
+
+def objects_beside(
+    dialect: Dialect, message: Message, of_chip: dict[str, bytes], today: datetime.date
+) -> dict[str, bytes]:
+    """The objects that the elements beside 55 make, by tag. Elements that have to agree and don't are a Disagreement.
+
+    The currency is empty if the element makes none, and 55 has its tag.
+    """
+    made: dict[str, bytes] = {}
+    for row in table.REQUEST_ROWS:
+        number = row.element[dialect.edition]
+        text = message.elements.get(number)
+        if not isinstance(text, str) or row.tag in of_chip and not row.is_used:
+            continue
+        length = row.length[dialect.edition]
+        value = value_of(row.tag, number, text, today) if length in (0, len(text)) else None
+        if value is None and (row.is_compared or row.tag not in of_chip):
+            raise Disagreement(f"element {number} has no value that tag {row.tag} may have")
+        if row.tag in made and made[row.tag] != value:
+            raise Disagreement(f"element {number} differs from another one that makes tag {row.tag}")
+        is_other = row.tag in of_chip and normal(row.tag, of_chip[row.tag]) != value
+        if row.is_compared and is_other and row.tag != TAG_AMOUNT:
+            raise Disagreement(f"element {number} differs from tag {row.tag} of element 55")
+        made[row.tag] = value or b""
+    return made
+
+
+def check_amount(of_message: dict[str, bytes], of_chip: dict[str, bytes]) -> None:
+    """Refuses another amount than the card saw, unless it is in another currency."""
+    for tag, is_why in ((TAG_CURRENCY, False), (TAG_AMOUNT, True)):
+        both = of_message.get(tag), of_chip.get(tag)
+        differs = None not in both and both[0] != both[1]
+        if differs and is_why:
+            raise Disagreement("element 4 differs from tag 9F02 of element 55, in one currency")
+        if differs:
+            return
+
+
+def normal(tag: str, value: bytes) -> bytes:
+    """A PAN with just as many F as it needs: chip data may have more."""
+    return pan_value(value.hex().rstrip("f")) if tag == TAG_PAN else value
+
+
+def pan_value(digits: str) -> bytes:
+    return bytes.fromhex(digits + "F" * (len(digits) % 2))
+
+
+def value_of(tag: str, number: int, text: str, today: datetime.date) -> Optional[bytes]:
+    """The value of an object that an element makes, or None if it makes none."""
+    if tag == TAG_PAN:
+        digits = text.partition(SEPARATOR)[0] if number == table.TRACK_2 else text
+        return pan_value(digits) if 8 <= len(digits) <= 19 and digits.isdecimal() else None
+    if tag == TAG_PSN:
+        return bytes.fromhex(text[1:]) if text[0] == "0" else None
+    if tag == TAG_AMOUNT:
+        return bytes.fromhex(text)
+    if tag == TAG_CURRENCY:
+        return bytes.fromhex(f"0{text}") if text.isdecimal() else None
+    if tag == TAG_TYPE:
+        return bytes.fromhex(text[:2])
+    return bytes.fromhex(text[:6]) if number == table.DATE["1993"] else date_value(text, today)
+
+
+def date_value(month_and_day: str, today: datetime.date) -> Optional[bytes]:
+    """A date without a year, in the year in which it is nearest to today."""
+    for year in (today.year, today.year - 1, today.year + 1):
+        try:
+            date = datetime.date(year, int(month_and_day[:2]), int(month_and_day[2:]))
+        except ValueError:
+            continue
+        if abs(date - today) <= HALF_A_YEAR:
+            return bytes.fromhex(date.strftime("%y%m%d"))
+    return None

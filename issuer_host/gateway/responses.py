@@ -1,0 +1,66 @@
+"""An answer, or an outcome without one, as a response."""
+
+from typing import NamedTuple, Optional
+
+from issuer_host import answers
+from issuer_host.gateway import table
+from issuer_host.gateway.dialect import Dialect
+from issuer_host.gateway.message import Message, Value
+
+ANSWER_WORDS = 6
+
+
+class Decision(NamedTuple):
+    """What a `fresh` or `kept` answer has."""
+
+    shard: int
+    place: int
+    approves: bool
+    response_code: bytes
+    data: bytes
+
+
+def decision_of(answer: str) -> Optional[Decision]:
+    """The decision of an answer, or None if it is a refusal."""
+    words = answer.split(" ")
+    if len(words) != ANSWER_WORDS or words[0] not in answers.DECISIONS:
+        return None
+    _, shard, place, approves, code, data = words
+    return Decision(int(shard), int(place), approves == "yes", bytes.fromhex(code), bytes.fromhex(data))
+
+
+def response_to(dialect: Dialect, request: Message, code: str, more: Optional[dict[int, Value]] = None) -> Message:
+    """A response with this code: what it echoes of its request, and more."""
+    elements = {it: request.elements[it] for it in dialect.echo if it in request.elements}
+    own: dict[int, Value] = {table.CODE: code, **(more or {})}
+    written = {it: data for it, data in request.written.items() if it not in own}
+    return Message(table.response_type(request.kind), elements | own, written)
+
+
+def settled(dialect: Dialect, request: Message, outcome: table.Outcome) -> Message:
+    return response_to(dialect, request, outcome.code[dialect.edition])
+
+
+def answered(dialect: Dialect, request: Message, answer: str) -> Message:
+    """The response to a request that a host answered."""
+    decision = decision_of(answer)
+    if decision is None:
+        refusal = table.refusal_of(answers.kind_of(answer).refusal)
+        known = refusal is not None and refusal in table.REFUSALS
+        return settled(dialect, request, table.REFUSALS[refusal] if refusal and known else table.MALFUNCTION)
+    code = table.code_of(decision.response_code, decision.approves, dialect.edition)
+    more: dict[int, Value] = {table.CHIP: decision.data}
+    if decision.approves:
+        more[table.APPROVAL] = table.approval_code(decision.shard, decision.place)
+    return response_to(dialect, request, code, more)
+
+
+def is_accepted(dialect: Dialect, request: Message) -> bool:
+    """Whether a network message is accepted: sign-on, sign-off, an echo, or one that doesn't say."""
+    code = request.elements.get(dialect.network_element)
+    return code is None or code in dialect.accepted
+
+
+def network_response(dialect: Dialect, request: Message) -> Message:
+    outcome = table.ACCEPTED if is_accepted(dialect, request) else table.UNSUPPORTED
+    return settled(dialect, request, outcome)
