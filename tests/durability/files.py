@@ -1,0 +1,269 @@
+"""Which files a start takes for journals, which it leaves as they are, and how several threads load many of them."""
+import copy
+import os
+import shutil
+import socket
+import subprocess
+import sys
+import tempfile
+from collections.abc import Callable, Iterator
+from contextlib import contextmanager
+from typing import Optional
+
+from issuer_host.journals import journal_path, old_journal_path
+from issuer_host.paths import HOME
+
+from durability import scenes
+from durability.disk import Image, read_journals, write_journals
+from durability.scenes import Scene
+from durability.tally import Check, Tally, check_of, new_folder
+from durability.watching import OTHER, Fault, Run, Watch
+
+NOBODY = 65_534
+# More shards than callers: threads then load two or more each, and the last one fewer.
+SHARDS_AND_CALLERS = ((3, 2), (5, 2), (5, 4), (7, 3), (16, 3), (16, 5), (16, 12), (16, 15), (16, 16))
+
+
+def status_of_start(tally: Tally, folder: str, before: Optional[Callable[[], None]] = None) -> tuple[int, list[str]]:
+    """The status of `show` over a folder's journals, and its last line if it stopped."""
+    run = tally.watch.run_alone(folder, scenes.show(), before=before)
+    return run.status, run.answers[-1:] if run.status else []
+
+
+def only_own_files_are_journals(tally: Tally) -> None:
+    """A journal is status 5, and stays as it is, if a link names it, all may write it, or it is no regular file."""
+    for name, shard in ((journal_path("journal", 1), 1), (old_journal_path("journal", 1), 1)):
+        for kind, put in strange_files():
+            with new_folder() as folder:
+                scenes.served("", 1, scenes.journals_of(2, 3), ()).prepare(folder)
+                path = os.path.join(folder, name)
+                os.rename(path, f"{folder}/elsewhere")
+                put(path, f"{folder}/elsewhere")
+                before = state_of(folder)
+                came = status_of_start(tally, folder)
+                tally.expect(came, (5, [f"stop 5 {shard}"]), f"{kind} as {name}: the status and the last line")
+                tally.expect(state_of(folder), before, f"{kind} as {name}: the files after the start")
+
+
+def strange_files() -> Iterator[tuple[str, Callable[[str, str], None]]]:
+    """What may stand at a journal's path: each is put there, and the journal itself is at the second path."""
+    yield "a symbolic link", lambda path, other: os.symlink(other, path)
+    yield "a symbolic link to nothing", lambda path, other: os.symlink(f"{other}-not", path)
+    yield "a folder", lambda path, other: os.mkdir(path)
+    yield "a pipe", lambda path, other: os.mkfifo(path)
+    yield "a socket", bind_socket
+    yield "a file that everyone may write", lambda path, other: link_with_mode(path, other, 0o666)
+    yield "a file that others may write", lambda path, other: link_with_mode(path, other, 0o602)
+
+
+def bind_socket(path: str, other: str) -> None:
+    with socket.socket(socket.AF_UNIX) as bound:
+        bound.bind(path)
+
+
+def link_with_mode(path: str, other: str, mode: int) -> None:
+    os.rename(other, path)
+    os.chmod(path, mode)
+
+
+def state_of(folder: str) -> list[tuple[str, int, int, bytes]]:
+    """The files of a folder: their names, modes, times of change (but the first journal's) and bytes."""
+    found = []
+    for entry in sorted(os.scandir(folder), key=lambda entry: entry.name):
+        stat = entry.stat(follow_symlinks=False)
+        is_plain = entry.is_file(follow_symlinks=False)
+        is_first = entry.name == journal_path("journal", 0)
+        with open(entry.path if is_plain else os.devnull, "rb") as data:
+            found.append((entry.name, stat.st_mode, 0 if is_first else stat.st_mtime_ns, data.read()))
+    return found
+
+
+def modes_of_owners_are_taken(tally: Tally) -> None:
+    """A journal that its owner, its group or all may read is taken, and one that the start creates has mode 0600."""
+    for mode in (0o600, 0o640, 0o644, 0o660):
+        with new_folder() as folder:
+            scenes.served("", 1, scenes.journals_of(2, 3), ()).prepare(folder)
+            for shard in range(2):
+                os.chmod(os.path.join(folder, journal_path("journal", shard)), mode)
+            tally.expect(status_of_start(tally, folder), (0, []), f"journals of mode {mode:o}: the status")
+    with new_folder() as folder:
+        scenes.served("", 1, {}, ()).prepare(folder)
+        os.umask(previous := os.umask(0))
+        tally.expect(status_of_start(tally, folder, lambda: ignore(os.umask(0))), (0, []), "new journals: the status")
+        modes = {name: os.stat(os.path.join(folder, name)).st_mode & 0o777 for name in read_journals(folder)}
+        tally.expect(
+            set(modes.values()), {0o600}, f"the modes of new journals, made under the mask 0 (not {previous:o})"
+        )
+
+
+def ignore(_: object) -> None:
+    """Nothing: what a call returned isn't needed."""
+
+
+def old_journals_stay_as_they_are(tally: Tally) -> None:
+    """A start over old journals never writes them, also while it copies them: their bytes and times stay."""
+    journals = scenes.old_journals_of(2, (30, 4))
+    scene = scenes.served("old journals", 1, journals, scenes.mixed_lines(6))
+    with new_folder() as folder:
+        scene.prepare(folder)
+        before = times_of(folder, journals)
+        for words in (scene.words, scenes.show(), scenes.serve(4)):
+            run = tally.watch.run_alone(folder, words, scene.groups if words != scenes.show() else ())
+            tally.expect(run.status, 0, f"{words[0]} over old journals: its status")
+            tally.expect(times_of(folder, journals), before, f"{words[0]}: the old journals, with their times")
+
+
+def times_of(folder: str, journals: Image) -> dict[str, tuple[int, bytes]]:
+    image = read_journals(folder)
+    return {name: (os.stat(os.path.join(folder, name)).st_mtime_ns, image[name]) for name in journals}
+
+
+def old_journals_need_not_be_writable(tally: Tally) -> None:
+    """Old journals may be files that can't be written, for a user who isn't root; a journal may not."""
+    old = scenes.old_journals_of(2, (30, 4))
+    with as_nobody(tally.watch, old) as (watch, folder, become):
+        for name in old:
+            os.chmod(os.path.join(folder, name), 0o400)
+        run = watch.run_alone(folder, scenes.show(), before=become)
+        tally.expect(run.status, 0, "show over old journals of mode 0400: its status")
+        copied = read_journals(folder)[journal_path("journal", 0)]
+        tally.expect(copied, scenes.text_of(scenes.status_records(2, 0, 30)), "the copy of an old journal of mode 0400")
+        os.chmod(os.path.join(folder, journal_path("journal", 1)), 0o400)
+        run = watch.run_alone(folder, scenes.show(), before=become)
+        tally.expect((run.status, run.answers), (5, ["stop 5 1"]), "show over a journal of mode 0400")
+
+
+@contextmanager
+def as_nobody(watch: Watch, journals: Image) -> Iterator[tuple[Watch, str, Optional[Callable[[], None]]]]:
+    """A folder with journals, and the program, for a user who isn't root: this one, or nobody."""
+    with new_folder() as folder, tempfile.TemporaryDirectory() as place:
+        scenes.served("", 1, journals, ()).prepare(folder)
+        if os.geteuid() != 0:
+            yield watch, folder, None
+            return
+        os.chmod(place, 0o755)
+        own = copy.copy(watch)
+        own.program = shutil.copy(watch.program, place)
+        for name in ("", *os.listdir(folder)):
+            os.chown(os.path.join(folder, name), NOBODY, NOBODY)
+        yield own, folder, lambda: os.setresuid(NOBODY, NOBODY, NOBODY)
+
+
+def an_old_journal_may_lose_what_was_copied(tally: Tally) -> None:
+    """An old journal that lost its last records to a power failure, after they were copied, changes nothing."""
+    journals = scenes.old_journals_of(2, (30, 4))
+    scene = Scene("", 2, scenes.show(), (), journals, {})
+    with new_folder() as folder:
+        scene.prepare(folder)
+        shown = tally.watch.run_alone(folder, scenes.show())
+        for length in (0, 1, 100, 28 * 29, 28 * 30):
+            write_journals(folder, {"journal.00": journals["journal.00"][:length]})
+            again = tally.watch.run_alone(folder, scenes.show())
+            came = (again.status, again.written)
+            tally.expect(came, (0, shown.written), f"show, with {length} bytes left of an old journal that was copied")
+
+
+def words_that_are_no_text_are_no_command(tally: Tally) -> None:
+    """Words that aren't text are status 1, and a start that can't open its empty device is status 4: neither writes."""
+    with new_folder() as folder:
+        scenes.served("", 1, {}, ()).prepare(folder)
+        run = tally.watch.run_alone(folder, [*scenes.show()[:-1], os.fsdecode(b"journal\xff")])
+        tally.expect((run.status, run.answers), (1, ["stop 1"]), "a name that isn't text: the status and the last line")
+        for number in (1, 2, 3):
+            run = tally.watch.run(folder, scenes.show(), faults=[Fault("open", OTHER, first=number)])
+            tally.expect(
+                (run.status, run.written), (4, b""), f"no handle of number {number}: the status and the output"
+            )
+        tally.expect(read_journals(folder), {}, "the journals after such starts")
+
+
+def a_limit_of_file_size_is_a_full_disk(tally: Tally) -> None:
+    """By the launcher's run, a limit of file size isn't a signal: lines past it are refused 15, and the run goes on."""
+    lines = "".join(f"{scenes.status_line(number)}\n" for number in range(60))
+    scene = Scene("", 2, ("serve", "--requests", "lines", *scenes.show()[1:]), (), {}, {"lines": lines})
+    run = f"""import resource, sys
+sys.path.insert(0, {HOME!r})
+from issuer_host.launcher.running import run_program
+resource.setrlimit(resource.RLIMIT_FSIZE, (500, 500))
+sys.exit(run_program({[tally.watch.program, *scene.words]!r}).status)"""
+    with new_folder() as folder:
+        scene.prepare(folder)
+        limited = subprocess.run([sys.executable, "-c", run], cwd=folder, capture_output=True, check=False)
+        again = tally.watch.run_alone(folder, scene.words)
+    answers = limited.stdout.split(b"\n")[:-1]
+    tally.expect(
+        (limited.returncode, len(answers)), (0, 60), "serve under a limit of 500 bytes a file: status, answers"
+    )
+    tally.holds(answers[-1:] == [b"refused 15"], "serve under a limit of 500 bytes a file refuses no line")
+    tally.expect((again.status, len(again.answers)), (0, 60), "serve without the limit afterwards: status, answers")
+
+
+def many_shards_are_loaded_by_few_callers(tally: Tally) -> None:
+    """More shards than callers: each journal is loaded, a bad one is named, and the first of several."""
+    count = 0
+    for shards, callers in SHARDS_AND_CALLERS:
+        journals = uneven_journals(shards)
+        pans = (scenes.EXAMPLE_PANS + scenes.STATUS_PANS)[:shards]
+        lines = [f"S {pan} 00 1" for pan in pans]
+        scene = scenes.served(f"{callers} callers, {shards} shards", callers, journals, lines, shards=shards)
+        run = run_of(tally, scene, journals)
+        places = [f"set {shard} {places_of(shards, shard)}" for shard in range(shards)]
+        tally.expect((run.status, run.answers), (0, places), f"{scene.name}: the status, and a place for each shard")
+        bad = range(shards) if not tally.is_short else sorted({0, shards // 2, shards - 1})
+        for shard in bad:
+            for others in ((), (shards - 1,)):
+                stops_at_bad(tally, scene, journals, shard, {shard, *others})
+                count += 1
+    tally.note(f"{count} bad journals")
+
+
+def uneven_journals(shards: int) -> Image:
+    """Journals of as many shards, none with as many records as the next."""
+    records = [scenes.status_records(shards, shard, 400)[: places_of(shards, shard)] for shard in range(shards)]
+    return {journal_path("journal", shard): scenes.text_of(own) + scenes.TORN for shard, own in enumerate(records)}
+
+
+def places_of(shards: int, shard: int) -> int:
+    """How many records the journal of a shard has."""
+    return (shard * 97 + shards * 13) % 300
+
+
+def run_of(tally: Tally, scene: Scene, journals: Image) -> Run:
+    with new_folder() as folder:
+        scene.prepare(folder, journals)
+        return tally.watch.run_alone(folder, scene.words, scene.groups)
+
+
+def stops_at_bad(tally: Tally, scene: Scene, journals: Image, first: int, bad: set[int]) -> None:
+    """Checks a start over journals of which some have a last line that is no record."""
+    names = [journal_path("journal", shard) for shard in range(scene.shards)]
+    broken = {
+        name: text + b"\n" if shard in bad else text for shard, (name, text) in enumerate(sorted(journals.items()))
+    }
+    line = places_of(scene.shards, first) + 2
+    with new_folder() as folder:
+        scene.prepare(folder, broken)
+        run = tally.watch.run_alone(folder, scene.words, scene.groups)
+        after = read_journals(folder)
+    what = f"{scene.name}, the journals of shards {sorted(bad)} are bad"
+    tally.expect((run.status, run.answers), (6, [f"stop 6 {first} {line}"]), f"{what}: the status and the last line")
+    for shard, name in enumerate(names):
+        whole = broken[name][: broken[name].rindex(b"\n") + 1]
+        tally.holds(after[name] in (broken[name], whole), f"{what}: shard {shard} has lost whole lines")
+
+
+CHECKS: tuple[Check, ...] = tuple(
+    map(
+        check_of,
+        (
+            only_own_files_are_journals,
+            modes_of_owners_are_taken,
+            old_journals_stay_as_they_are,
+            old_journals_need_not_be_writable,
+            an_old_journal_may_lose_what_was_copied,
+            words_that_are_no_text_are_no_command,
+            a_limit_of_file_size_is_a_full_disk,
+            many_shards_are_loaded_by_few_callers,
+        ),
+    )
+)
