@@ -1,0 +1,16 @@
+"""The scripts that need no built program, and end in seconds, the longest first. `tests/all` and `./issuer test` begin
+with them.
+"""
+
+WITHOUT_PROGRAM = (
+    "tests/lint",
+    "tests/names",
+    "tests/card",
+    "tests/definitions --check",
+    "tests/crates",
+    "tests/figures",
+    "tests/make_vectors --check",
+    "tests/edits/run --check",
+    "tests/mutants/try_all --check",
+    "tools/box_circuits --check",
+)

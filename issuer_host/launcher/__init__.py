@@ -1,0 +1,16 @@
+"""The launcher, `./issuer`: it runs the proved program, or a build without proofs, and says in words what went wrong.
+
+- `main`: what the words ask for
+- `usage`: the usage, of the table of commands
+- `hints`: what words that are no command are near to
+- `pin_words`: the words of `pin` that are filled in, the PIN from a file and the salt
+- `sources`: the crates that the program stands on, and the sums of their files
+- `toolchain`: the toolchain's command, and its identity
+- `proved`: whether the built program is the proved one of these sources, and its runs
+- `running`: a run of a program whose output is passed on
+- `judged`: how many lines of a clearing file were judged so far
+- `causes`: why a program stopped early, in words
+- `messages`: lines on the error output
+
+What builds or proves is in `issuer_host.building`, which an installed copy doesn't have.
+"""

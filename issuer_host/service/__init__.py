@@ -1,0 +1,19 @@
+"""The service around the program: a careful start, a bridge for each partition, and the commands of operators.
+
+What runs:
+
+- `careful_start`: refuses a start that would forget what was decided; `journal_checks` and `users` are its parts
+- `bridge`: takes requests from a partition's queue and sends the answers back. `flight` has what it owes the broker,
+  `hosting` the host that it runs, `host` one run of the program, `figures` and `notices` what it says of itself
+- `broker`: which exchanges and queues there are; `link`: one connection, opened again when it is lost
+- `asking`: a publisher's side; `ask`: its command
+
+What operators run:
+
+- `queues` declares the broker's queues, `order` queues commands and sets statuses
+- `configurations` reads those of all partitions, `partition` cuts cards into them, `repartition` moves journals
+- `follow` writes journals as a feed; `durable_lines` says which of their records are durable
+- `offline` runs the program where no host does
+
+`trials` has what tries and measures all this, `packaging` makes the Debian package. An installed copy has neither.
+"""

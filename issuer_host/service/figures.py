@@ -1,0 +1,93 @@
+"""The figures of a bridge, in Prometheus' text form on the loopback.
+
+They are never fatal: without the library, or without the port, there are none.
+"""
+import os
+from typing import Any, Optional
+
+from issuer_host.answers import DECISIONS, REFUSALS, REFUSED, kind_of
+from issuer_host.journals import journals_of
+from issuer_host.service.figures_server import FiguresServer
+from issuer_host.service.refusal import tell
+
+SECONDS = (0.002, 0.005, 0.01, 0.02, 0.05, 0.1, 0.2, 0.5, 1, 2, 5, 10, 30)
+# By the name of an attribute: the kind of figure, its name and what it says.
+KINDS = {
+    "seconds": ("Histogram", "issuer_answer_seconds", "From a request's delivery to its answer's confirm"),
+    "in_flight": ("Gauge", "issuer_lines_in_flight", "Requests delivered and not acknowledged"),
+    "oldest": ("Gauge", "issuer_oldest_line_seconds", "Age of the oldest request in flight"),
+    "starts": ("Counter", "issuer_host_starts", "Starts of the host"),
+    "losses": ("Counter", "issuer_connection_losses", "Losses of the broker's connection"),
+    "bodies": ("Counter", "issuer_bodies_refused", "Messages that are no request line, sent to the dead letters"),
+    "returned": ("Counter", "issuer_answers_returned", "Answers whose reply queue was gone"),
+    "dropped": ("Counter", "issuer_answers_dropped", "Answers that their reply queue refused"),
+    "bytes": ("Gauge", "issuer_journal_bytes", "Bytes of the partition's journals"),
+    "free": ("Gauge", "issuer_journal_disk_free_bytes", "Free bytes of the journals' disk"),
+    "active": ("Gauge", "issuer_active", "1 if this bridge runs the partition's host"),
+}
+# These have a label each beside the partition.
+ANSWERS = ("issuer_answers", "Answers by kind; a refusal has its number", ("partition", "kind", "refusal"))
+ENDS = ("issuer_host_ends", "Ends of the host by status; a signal is negative", ("partition", "status"))
+
+
+class Nothing:
+    """Stands for every figure if none are kept."""
+
+    def __getattr__(self, name: str) -> Any:
+        return lambda *words, **more: self
+
+
+class Figures:
+    def __init__(self, partition: int, port: int, journal: str) -> None:
+        self.partition = str(partition)
+        self.journal = journal
+        self.figures: dict[str, Any] = {}
+        self.answers_by: Any = Nothing()
+        self.ends_by: Any = Nothing()
+        if not port:
+            return
+        try:
+            self.begin(port)
+        except (ImportError, OSError) as fault:
+            tell("bridge", f"no figures: {fault}")
+            self.figures.clear()
+
+    def __getattr__(self, name: str) -> Any:
+        """A figure by its name in `KINDS`."""
+        if name not in KINDS:
+            raise AttributeError(name)
+        return self.figures.get(name, Nothing())
+
+    def begin(self, port: int) -> None:
+        import prometheus_client
+
+        self.answers_by = prometheus_client.Counter(*ANSWERS)
+        self.ends_by = prometheus_client.Counter(*ENDS)
+        # (a rate sees no first event of a counter that begins with it)
+        for kind in DECISIONS:
+            self.answers_by.labels(self.partition, kind, "").inc(0)
+        for refusal in REFUSALS:
+            self.answers_by.labels(self.partition, REFUSED, str(int(refusal))).inc(0)
+        for attribute, (kind, name, text) in KINDS.items():
+            more = {"buckets": SECONDS} if kind == "Histogram" else {}
+            made = getattr(prometheus_client, kind)(name, text, ("partition",), **more)
+            self.figures[attribute] = made.labels(self.partition)
+        FiguresServer(port, prometheus_client.generate_latest).start()
+
+    def answered(self, answer: str, seconds: Optional[float]) -> None:
+        kind, refusal = kind_of(answer)
+        self.answers_by.labels(self.partition, kind, refusal).inc()
+        if seconds is not None:
+            self.seconds.observe(seconds)
+
+    def ended(self, status: int) -> None:
+        self.ends_by.labels(self.partition, str(status)).inc()
+
+    def look_at_disk(self) -> None:
+        """Measures the journals and their disk."""
+        try:
+            self.bytes.set(sum(os.path.getsize(path) for path in journals_of(self.journal)))
+            found = os.statvfs(os.path.dirname(self.journal) or ".")
+            self.free.set(found.f_bavail * found.f_frsize)
+        except OSError as fault:
+            tell("bridge", f"the journals' disk can't be measured: {fault.strerror}")

@@ -1,0 +1,114 @@
+"""The loop that bridge and publishers run in, and the channel of a connection, as `pika` gives them."""
+from collections.abc import Callable, Mapping
+from typing import Any, Optional, Protocol
+
+Action = Callable[[], object]
+
+
+class Loop(Protocol):
+    """Waits for files and for time, and calls back."""
+
+    READ: int
+    WRITE: int
+
+    def start(self) -> None:
+        ...
+
+    def stop(self) -> None:
+        ...
+
+    def call_later(self, delay: float, callback: Action) -> object:
+        ...
+
+    def remove_timeout(self, timeout_handle: object) -> None:
+        ...
+
+    def add_callback_threadsafe(self, callback: Action) -> None:
+        ...
+
+    def add_handler(self, fd: int, handler: Callable[[int, int], None], events: int) -> None:
+        ...
+
+    def remove_handler(self, fd: int) -> None:
+        ...
+
+
+class Properties(Protocol):
+    """A message's properties that are used."""
+
+    correlation_id: str
+    reply_to: Optional[str]
+
+
+class Delivery(Protocol):
+    """How a message was delivered."""
+
+    delivery_tag: int
+
+
+Callback = Callable[[object], object]
+OnMessage = Callable[["Channel", Delivery, Properties, bytes], None]
+
+
+class Channel(Protocol):
+    """The calls on a channel that are used. A `callback` is called when the broker has done what was asked."""
+
+    def basic_qos(self, prefetch_size: int = 0, prefetch_count: int = 0) -> None:
+        ...
+
+    def basic_consume(self, queue: str, on_message_callback: OnMessage, auto_ack: bool = False) -> str:
+        ...
+
+    def basic_cancel(self, consumer_tag: str) -> None:
+        ...
+
+    def basic_ack(self, delivery_tag: int, multiple: bool = False) -> None:
+        ...
+
+    def basic_reject(self, delivery_tag: int, requeue: bool = True) -> None:
+        ...
+
+    def basic_publish(
+        self, exchange: str, routing_key: str, body: bytes, properties: object, mandatory: bool = False
+    ) -> None:
+        ...
+
+    def confirm_delivery(self, ack_nack_callback: Callable[[Any], None], callback: Callback) -> None:
+        ...
+
+    def exchange_declare(self, exchange: str, exchange_type: str, durable: bool, callback: Callback) -> None:
+        ...
+
+    def queue_declare(
+        self,
+        queue: str,
+        passive: bool = False,
+        durable: bool = False,
+        arguments: Optional[Mapping[str, object]] = None,
+        callback: Optional[Callback] = None,
+    ) -> None:
+        ...
+
+    def queue_bind(self, queue: str, exchange: str, routing_key: Optional[str] = None, *, callback: Callback) -> None:
+        ...
+
+    def add_on_close_callback(self, callback: Callable[["Channel", Exception], None]) -> None:
+        ...
+
+    def add_on_cancel_callback(self, callback: Callable[[object], object]) -> None:
+        ...
+
+    def add_on_return_callback(self, callback: Callable[["Channel", object, Properties, bytes], object]) -> None:
+        ...
+
+
+# A step that is taken at a channel: it is given what to call when it is done.
+Step = Callable[[Callback], None]
+
+
+def new_loop() -> Loop:
+    """Returns a loop of `pika`."""
+    from pika.adapters.select_connection import IOLoop
+
+    loop: Loop = IOLoop()
+    return loop

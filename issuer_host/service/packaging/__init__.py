@@ -1,0 +1,1 @@
+"""Makes the Debian package. No installed copy has it."""

@@ -1,0 +1,157 @@
+"""A broker with all bridges of some partitions, and what can happen to them."""
+import collections
+import json
+import os
+import random
+import subprocess
+import threading
+import time
+from typing import Optional, Union
+
+from issuer_host.partitions import partition_configuration, partition_journal
+from issuer_host.paths import HOME
+from issuer_host.service import offline
+from issuer_host.service.trials.cards import whole_configuration
+from issuer_host.service.trials.managed import GO_ON, KILL, STOP, TERMINATE, ManagedBridge, signal_to
+from issuer_host.service.trials.private_broker import PrivateBroker
+
+PARTITIONS, SHARDS, CALLERS, CARDS = 4, 2, 2, 200
+BRIDGES = 2
+DISK_BYTES = 12 << 20
+FULL_SECONDS = 1.5
+LOOK_SECONDS = 0.02
+PIECE = 1 << 16
+
+
+def command_of(name: str) -> str:
+    return os.path.join(HOME, "deploy", name)
+
+
+def words_of_program(program: Optional[str]) -> list[str]:
+    return ["--program", program] if program else []
+
+
+class Farm:
+    """The broker, the bridges and the partitions' journals, in one folder."""
+
+    def __init__(self, room: str, program: Optional[str], disk: Optional[str], is_loud: bool = False) -> None:
+        self.room = room
+        self.program = program
+        self.disk = disk
+        self.is_loud = is_loud
+        self.lock = threading.Lock()
+        self.is_full = threading.Event()
+        self.is_ended = False
+        self.configurations = os.path.join(room, "configurations")
+        self.broker = PrivateBroker(os.path.join(room, "broker"))
+        self.broker.start()
+        self.bridges: list[ManagedBridge] = []
+
+    def begin(self) -> None:
+        for partition in range(PARTITIONS):
+            self.add_bridges(partition)
+        self.broker.wait()
+        words = ["--partitions", str(PARTITIONS), "--broker-file", self.broker.url_file]
+        subprocess.run([command_of("queues"), *words], stdout=subprocess.DEVNULL, check=True)
+        for bridge in self.bridges:
+            bridge.start()
+        threading.Thread(target=self.manage, daemon=True).start()
+
+    def add_bridges(self, partition: int) -> None:
+        """Creates a partition's journals, and makes its bridges' commands."""
+        config = partition_configuration(self.configurations, partition)
+        journal = self.journal(partition)
+        os.makedirs(os.path.dirname(journal), exist_ok=True)
+        offline.show(config, journal, self.program, begins=True)
+        command = [command_of("bridge"), "--partition", str(partition), "--config", config, "--journal", journal]
+        command += ["--callers", str(CALLERS), "--broker-file", self.broker.url_file]
+        command += words_of_program(self.program)
+        self.bridges += [ManagedBridge(self.room, partition, number, command) for number in range(BRIDGES)]
+
+    def journal(self, partition: int) -> str:
+        return partition_journal(self.room, partition)
+
+    def manage(self) -> None:
+        while not self.is_ended:
+            with self.lock:
+                for bridge in self.bridges:
+                    bridge.look(time.monotonic())
+            time.sleep(LOOK_SECONDS)
+
+    def pick(self, dice: random.Random, is_active: bool) -> ManagedBridge:
+        """A bridge that has a host, or one that hasn't; any if there is no such bridge."""
+        with self.lock:
+            found = [bridge for bridge in self.bridges if (bridge.host() is not None) == is_active]
+            return dice.choice(found or self.bridges)
+
+    def happen(self, event: str, dice: random.Random) -> None:
+        """Does something bad. What it is done to may end by itself at the same time."""
+        if self.is_loud:
+            print(f"{time.strftime('%H:%M:%S')} {event}", flush=True)
+        if event == "broker":
+            self.broker.kill()
+            time.sleep(dice.uniform(0.0, 0.5))
+            self.broker.start()
+        elif event == "disk":
+            self.fill_disk()
+        else:
+            self.end_one(event, self.pick(dice, event != "standby"))
+
+    def end_one(self, event: str, bridge: ManagedBridge) -> None:
+        """Ends a bridge, its host or both."""
+        host = bridge.host()
+        if event in ("host", "both") and host:
+            signal_to(host, KILL)
+        if event != "host":
+            bridge.signal({"term": TERMINATE, "stop": STOP}.get(event, KILL))
+
+    def fill_disk(self) -> None:
+        """Fills the first partition's disk to its last byte, for a while."""
+        assert self.disk is not None
+        filler = os.path.join(self.disk, "filler")
+        for piece in (bytes(PIECE), b"\0"):
+            fill(filler, piece)
+        self.is_full.set()
+        time.sleep(FULL_SECONDS)
+        os.remove(filler)
+        self.is_full.clear()
+
+    def end(self) -> None:
+        self.is_ended = True
+        with self.lock:
+            for bridge in self.bridges:
+                bridge.signal(GO_ON)
+                bridge.signal(TERMINATE)
+            for bridge in self.bridges:
+                bridge.end()
+
+    def ends(self) -> "collections.Counter[Union[int, str]]":
+        found: collections.Counter[Union[int, str]] = collections.Counter()
+        for bridge in self.bridges:
+            found += bridge.ends
+        return found
+
+
+def fill(path: str, piece: bytes) -> None:
+    """Appends a piece again and again until the disk takes no more."""
+    try:
+        with open(path, "ab", buffering=0) as to:
+            while True:
+                to.write(piece)
+    except OSError:
+        # (that is what was wanted)
+        pass
+
+
+def make_configurations(room: str, program: Optional[str]) -> None:
+    """Cuts the cards by deploy/partition, as an operator does."""
+    template = whole_configuration(CARDS, SHARDS)
+    cards = template.pop("cards")
+    with open(os.path.join(room, "template"), "w", encoding="utf-8") as text:
+        json.dump(template, text)
+    rows = "".join(f"{card['pan']},{card['psn']},{card['method']}\n" for card in cards)
+    with open(os.path.join(room, "cards"), "w", encoding="utf-8") as text:
+        text.write("pan,psn,method\n" + rows)
+    words = ["--of", str(PARTITIONS), "--cards", f"{room}/cards", "--template", f"{room}/template"]
+    words += ["--to", os.path.join(room, "configurations"), *words_of_program(program)]
+    subprocess.run([command_of("partition"), *words], stdout=subprocess.DEVNULL, check=True)

@@ -1,0 +1,119 @@
+"""What is read of a message: the properties that are used, and its body up to a limit.
+
+`pika` decodes all headers of a message before anybody sees it, and closes the connection at one that it doesn't like:
+the broker would deliver that message again, for ever. Nothing here uses a header, so none is decoded. And a body is
+kept in memory only as far as a request line can be long.
+"""
+import struct
+from typing import Any, Optional, Union
+
+import pika
+
+# The number of the class of messages in AMQP 0-9-1.
+BASIC = 60
+# Bytes of a body that are kept.
+KEPT = 4096
+# The properties of a message in their order, by the bit that says whether it is there, and how each is laid out.
+SHORT, TABLE, BYTE = "short", "table", "byte"
+LAYOUT = (
+    (1 << 15, "content_type", SHORT),
+    (1 << 14, "content_encoding", SHORT),
+    (1 << 13, "headers", TABLE),
+    (1 << 12, "delivery_mode", BYTE),
+    (1 << 11, "priority", BYTE),
+    (1 << 10, "correlation_id", SHORT),
+    (1 << 9, "reply_to", SHORT),
+    (1 << 8, "expiration", SHORT),
+    (1 << 7, "message_id", SHORT),
+)
+# A second word of flags follows.
+MORE_FLAGS = 1
+# (bytes if they aren't UTF-8)
+Text = Union[str, bytes]
+
+
+class UsedProperties:
+    """A message's properties that are used."""
+
+    INDEX = BASIC
+
+    def __init__(self) -> None:
+        self.correlation_id: Optional[Text] = None
+        self.reply_to: Optional[Text] = None
+        self.message_id: Optional[Text] = None
+
+    def decode(self, encoded: bytes, offset: int = 0) -> "UsedProperties":
+        """Takes what is used of the encoded properties. Properties that end too early are those before their end."""
+        try:
+            self.take(encoded, offset)
+        except (struct.error, IndexError):
+            pass
+        return self
+
+    def take(self, encoded: bytes, at: int) -> None:
+        (flags,) = struct.unpack_from(">H", encoded, at)
+        at += 2
+        more = flags
+        while more & MORE_FLAGS:
+            (more,) = struct.unpack_from(">H", encoded, at)
+            at += 2
+        for bit, name, layout in LAYOUT:
+            if not flags & bit:
+                continue
+            begin, at = span_of(encoded, at, layout)
+            if name in vars(self):
+                setattr(self, name, text_of(encoded[begin:at]))
+
+
+def span_of(encoded: bytes, at: int, layout: str) -> tuple[int, int]:
+    """Returns where a property's value begins and ends."""
+    if layout == BYTE:
+        return at, at + 1
+    if layout == SHORT:
+        return at + 1, at + 1 + encoded[at]
+    (length,) = struct.unpack_from(">I", encoded, at)
+    return at + 4, at + 4 + length
+
+
+def text_of(value: bytes) -> Text:
+    try:
+        return value.decode("utf-8")
+    except UnicodeDecodeError:
+        return value
+
+
+class ShortBodies:
+    """Puts a message's frames together, as `pika` does, and keeps the beginning of its body alone."""
+
+    def __init__(self) -> None:
+        self.method: Any = None
+        self.header: Any = None
+        self.seen = 0
+        self.body = b""
+
+    def process(self, frame: Any) -> Optional[tuple[Any, Any, bytes]]:
+        """Takes a frame. Returns the message if it was the last one."""
+        if isinstance(frame, pika.frame.Header):
+            self.header = frame
+            self.seen = 0
+            self.body = b""
+        elif isinstance(frame, pika.frame.Body):
+            self.seen += len(frame.fragment)
+            self.body += frame.fragment[: KEPT - len(self.body)]
+        else:
+            self.method = frame
+            return None
+        if self.seen < self.header.body_size:
+            return None
+        return self.method, self.header, self.body
+
+
+def decode_no_headers() -> None:
+    """Has all connections of this process take what is used of a message's properties alone."""
+    pika.spec.props[BASIC] = UsedProperties
+
+
+def keep_short_bodies(channel: Any) -> None:
+    """Has a channel keep the beginnings of bodies alone. (`pika` has no other place for it.)"""
+    if hasattr(channel, "_content_assembler"):
+        channel._content_assembler = ShortBodies()
