@@ -1,99 +1,137 @@
-"""What the scripts of this folder share: their words, an issuer of four cards over two shards, status lines for them, and a tally."""
-import argparse
+"""What scripts that run the program share: an issuer of four cards over two shards, and the words of runs.
+
+`tests/checks.py` has the words of a script, and its checks by name.
+"""
 import json
 import os
-import subprocess
-import sys
+import tempfile
+from typing import NamedTuple
 
-HOME = os.path.dirname(os.path.dirname(os.path.abspath(__file__)))
-# Where `rt ci` leaves the program, and where `./issuer prove` does.
-PROGRAMS = ("crates/issuer_main/out/issuer_main", ".build/issuer")
+from checks import Tally, options_of
+from issuer_host import journals
+from issuer_host.commands import CALLERS, COMMANDS
+from issuer_host.paths import HOME
+
+__all__ = ["HOME", "Tally", "options_of"]
+
 MEMORY = "/dev/shm" if os.path.isdir("/dev/shm") else None
 SHARDS = 2
+VERSION = journals.VERSION_LINE
 PANS = [f"4{card:015d}" for card in range(4)]
-# The first line of a journal.
-VERSION = "v2\n"
+ANYTHING = "0" * 10
+# The greatest amount.
+MOST = 999_999_999_999
 
 
-def built_program():
-    """The path of the built program: the later one where both places have one."""
-    paths = [os.path.join(HOME, it) for it in PROGRAMS]
-    return max(paths, key=lambda it: os.path.getmtime(it) if os.path.exists(it) else 0)
+class Masked(NamedTuple):
+    """A mask of five bytes, and the value that is compared under it; both in hexadecimal, and filled with zeros."""
+
+    mask: str = ""
+    value: str = ""
+
+    def filled(self) -> tuple[str, str]:
+        return self.mask.ljust(len(ANYTHING), "0"), self.value.ljust(len(ANYTHING), "0")
 
 
-def options_of(usage, **more):
-    """The words of a script: the program's path, whether to run the short form, and others."""
-    options = argparse.ArgumentParser(usage=usage)
-    options.add_argument("--program", default=built_program(), type=os.path.abspath)
-    options.add_argument("--short", action="store_true")
-    for name, default in more.items():
-        options.add_argument(f"--{name}", default=default, type=type(default))
-    options = options.parse_args()
-    if not os.access(options.program, os.X_OK):
-        sys.exit("build the program first: ./issuer prove, or rt ci")
-    return options
+def table_row(
+    code: str,
+    approve: bool,
+    csu: str,
+    least: int = 0,
+    most: int = MOST,
+    status: int | None = None,
+    tvr: Masked = Masked(),
+    cvr: Masked = Masked(),
+) -> dict[str, object]:
+    """Returns a row of a decision table: one that takes all requests, but for what is given."""
+    tvr_mask, tvr_value = tvr.filled()
+    cvr_mask, cvr_value = cvr.filled()
+    return {
+        "tvr_mask": tvr_mask,
+        "tvr_value": tvr_value,
+        "cvr_mask": cvr_mask,
+        "cvr_value": cvr_value,
+        "least": least,
+        "most": most,
+        "status": status,
+        "arc": code,
+        "approve": approve,
+        "csu": csu,
+    }
 
 
-def configuration():
-    zeros = "0" * 10
-    row = {"tvr_mask": zeros, "tvr_value": zeros, "cvr_mask": zeros, "cvr_value": zeros, "least": 0, "most": 999_999_999_999}
-    row |= {"status": None, "arc": "3035", "approve": False, "csu": "00000000"}
+def configuration() -> str:
     keys = [{"dki": 1, "option": "A", "ac": "0" * 32, "smi": "0" * 32}]
     cards = [{"pan": pan, "psn": "00", "method": 1} for pan in PANS]
-    return json.dumps({"shards": SHARDS, "keys": keys, "cards": cards, "table": [row]})
+    return json.dumps({"shards": SHARDS, "keys": keys, "cards": cards, "table": [table_row("3035", False, "00000000")]})
 
 
-def status_line(number):
-    """A status for one of the cards, and the record that it has to leave."""
-    pan, status = PANS[number % len(PANS)], number // len(PANS) % 10
+def status_line(number: int) -> tuple[str, str]:
+    """Returns a line that sets a status for one of the cards, and the record that it has to leave."""
+    pan = PANS[number % len(PANS)]
+    status = number // len(PANS) % 10
     return f"S {pan} 00 {status}\n", f"s {pan}ffff 00 {status}"
 
 
-def serve(journal, callers=1, requests="requests", config="config"):
-    return ["serve", "--config", config, "--requests", requests, "--journal", journal, "--callers", str(callers)]
+def words_of(command: str, *values: str) -> list[str]:
+    """Returns the words of a command: its needed options in their order, with these values."""
+    pairs = zip(COMMANDS[command].needed, values, strict=True)
+    return [command, *(word for option, value in pairs for word in (option.name, value))]
 
 
-def show(journal):
-    return ["show", "--config", "config", "--journal", journal]
+def serve(journal: str, callers: int = 1, requests: str = "requests", config: str = "config") -> list[str]:
+    return [*words_of("serve", config, requests, journal), CALLERS.name, str(callers)]
 
 
-def old_path_of(folder, journal, shard):
-    """The path of a shard's old journal, of version 1."""
-    return os.path.join(folder, f"{journal}.{shard:02d}")
+def show(journal: str) -> list[str]:
+    return words_of("show", "config", journal)
 
 
-def path_of(folder, journal, shard):
-    return f"{old_path_of(folder, journal, shard)}.v2"
+def clear(journal: str, clearing: str = "clearing") -> list[str]:
+    return words_of("clear", "config", clearing, journal)
 
 
-def content_of(path):
-    """The text of a file, or none where there is no file."""
+def export(journal: str) -> list[str]:
+    return words_of("export", "config", journal)
+
+
+def standby(journal: str, feed: str = "feed") -> list[str]:
+    return words_of("standby", "config", feed, journal)
+
+
+def old_path_of(folder: str, journal: str, shard: int) -> str:
+    """Returns the path of a shard's old journal, of version 1."""
+    return journals.old_journal_path(os.path.join(folder, journal), shard)
+
+
+def path_of(folder: str, journal: str, shard: int) -> str:
+    return journals.journal_path(os.path.join(folder, journal), shard)
+
+
+def new_folder() -> "tempfile.TemporaryDirectory[str]":
+    """A folder for a script's files, in memory if there is a file system there."""
+    return tempfile.TemporaryDirectory(dir=MEMORY)
+
+
+def content_of(path: str) -> str:
+    """Returns the text of a file; none if there is no file."""
     if not os.path.exists(path):
         return ""
-    with open(path) as text:
+    with open(path, encoding="utf-8", errors="surrogateescape") as text:
         return text.read()
 
 
-def whole_lines(folder, journal, shard):
-    """The records' whole lines of a shard's journal, and what stands behind them; none where there is no journal."""
+def write_text(folder: str, name: str, text: str) -> None:
+    with open(os.path.join(folder, name), "w", encoding="utf-8", errors="surrogateescape") as file:
+        file.write(text)
+
+
+def write_bytes(folder: str, name: str, data: bytes) -> None:
+    with open(os.path.join(folder, name), "wb") as file:
+        file.write(data)
+
+
+def whole_lines(folder: str, journal: str, shard: int) -> tuple[list[str], str]:
+    """Returns the whole lines of a shard's records, and what stands behind them; none if there is no journal."""
     *whole, rest = content_of(path_of(folder, journal, shard)).split("\n")
     return whole[1:], rest
-
-
-class Tally:
-    def __init__(self, program):
-        self.program = program
-        self.passed = self.failed = 0
-
-    def check(self, holds, what):
-        self.passed += bool(holds)
-        if not holds:
-            self.failed += 1
-            print(f"wrong: {what}")
-
-    def run(self, folder, words, text=True, **more):
-        return subprocess.run([self.program, *words], capture_output=True, text=text, check=False, cwd=folder, **more)
-
-    def end(self):
-        print(f"{self.passed} passed, {self.failed} failed")
-        sys.exit(self.failed > 0)

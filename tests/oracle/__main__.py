@@ -1,15 +1,18 @@
-"""An independent program of the whole host: `python3 tests/oracle serve --config FILE --requests FILE --journal NAME`, and so on.
+"""An independent program of the whole host: `python3 tests/oracle serve --config FILE --requests FILE --journal NAME`,
+and so on.
 
-It takes the words of the program, writes what the program has to write, keeps journals as it keeps them, and ends with its status. One
-caller answers, whatever `--callers` says.
+It takes the words of the program, writes what the program has to write, keeps journals as it keeps them, and ends with
+its status. One caller answers, whatever `--callers` says.
 """
 import io
+import os
 import sys
 
-from program import run
+sys.path[0] = os.path.dirname(os.path.dirname(os.path.abspath(__file__)))
+from oracle.command_line import run
 
 
-def main():
+def main() -> None:
     try:
         words = [word.encode("utf-8", "strict").decode() for word in sys.argv[1:]]
     except UnicodeEncodeError:

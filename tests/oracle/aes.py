@@ -1,11 +1,11 @@
 """AES-128 (FIPS 197), and CMAC with it (NIST SP 800-38B).
 
-A state is four columns, each a number of 32 bits with row 0 highest. A round's substitution, shift of rows and mixing of columns is one
-lookup for each byte: the column that this byte alone adds.
+A state is four columns, each a number of 32 bits with row 0 highest. A round's substitution, shift of rows and mixing
+of columns is one lookup for each byte: the column that this byte alone adds.
 """
 from functools import lru_cache
 
-from ciphers import xor
+from oracle.ciphers import xor
 
 BLOCK = 16
 ROUNDS = 10
@@ -15,42 +15,53 @@ MODULUS = 0x11B
 CARRIED = 0x87
 
 
-def twice(byte):
+def twice(byte: int) -> int:
     """FIPS 197, 4.2.1: the product with x."""
     return byte << 1 ^ (MODULUS if byte & 0x80 else 0)
 
 
-def product(one, other):
+def product(one: int, other: int) -> int:
     result = 0
     while other:
         result ^= one if other & 1 else 0
-        one, other = twice(one), other >> 1
+        one = twice(one)
+        other = other >> 1
     return result
 
 
-def substituted(byte):
-    """FIPS 197, 5.1.1: the inverse, 0 for 0, and its affine transformation."""
-    inverse = next((it for it in range(256) if product(byte, it) == 1), 0)
+def inverses() -> list[int]:
+    """The inverse of each byte, 0 for 0. The powers of 3 are all bytes but 0: that of n has the inverse of 255 - n."""
+    powers = [1]
+    for _ in range(254):
+        powers.append(product(powers[-1], 3))
+    found = [0] * 256
+    for number, power in enumerate(powers):
+        found[power] = powers[-number]
+    return found
+
+
+def substituted(inverse: int) -> int:
+    """FIPS 197, 5.1.1: the affine transformation of a byte's inverse."""
     turned = [inverse << count | inverse >> (8 - count) for count in range(5)]
     return (turned[0] ^ turned[1] ^ turned[2] ^ turned[3] ^ turned[4] ^ 0x63) & 0xFF
 
 
-def rotated(word, count):
+def rotated(word: int, count: int) -> int:
     """A word rotated right by so many bytes."""
     return (word >> 8 * count | word << 8 * (4 - count)) & 0xFFFFFFFF
 
 
-BOX = bytes(map(substituted, range(256)))
-ROW_0 = [twice(it) << 24 | it << 16 | it << 8 | twice(it) ^ it for it in BOX]
+BOX = bytes(map(substituted, inverses()))
+ROW_0 = [twice(byte) << 24 | byte << 16 | byte << 8 | twice(byte) ^ byte for byte in BOX]
 ROW_1, ROW_2, ROW_3 = ([rotated(word, row) for word in ROW_0] for row in (1, 2, 3))
 
 
-def box_word(word):
+def box_word(word: int) -> int:
     return int.from_bytes(word.to_bytes(4, "big").translate(BOX), "big")
 
 
 @lru_cache(maxsize=1 << 16)
-def schedule(key):
+def schedule(key: bytes) -> list[list[int]]:
     """FIPS 197, 5.2: the eleven round keys, each four words."""
     words = [int.from_bytes(key[at : at + 4], "big") for at in range(0, BLOCK, 4)]
     constant = 1
@@ -63,7 +74,7 @@ def schedule(key):
     return [words[at : at + 4] for at in range(0, len(words), 4)]
 
 
-def aes_encipher(key, block):
+def aes_encipher(key: bytes, block: bytes) -> bytes:
     """FIPS 197, 5.1."""
     first, *middle, last = schedule(key)
     a, b, c, d = (int.from_bytes(block[4 * at : 4 * at + 4], "big") ^ word for at, word in enumerate(first))
@@ -79,20 +90,20 @@ def aes_encipher(key, block):
     return b"".join((box_word(word) ^ round_key).to_bytes(4, "big") for word, round_key in zip(shifted, last))
 
 
-def doubled(block):
+def doubled(block: bytes) -> bytes:
     """SP 800-38B, 6.1: the block shifted left by one bit."""
     shifted = int.from_bytes(block, "big") << 1
     return (shifted & (1 << 128) - 1 ^ (CARRIED if shifted >> 128 else 0)).to_bytes(BLOCK, "big")
 
 
 @lru_cache(maxsize=1 << 16)
-def subkeys(key):
+def subkeys(key: bytes) -> tuple[bytes, bytes]:
     """SP 800-38B, 6.1: K1 for a whole last block, K2 for a padded one."""
     first = doubled(aes_encipher(key, bytes(BLOCK)))
     return first, doubled(first)
 
 
-def cmac(key, text):
+def cmac(key: bytes, text: bytes) -> bytes:
     """SP 800-38B, 6.2, all 16 bytes."""
     for_whole, for_padded = subkeys(key)
     is_whole = text and len(text) % BLOCK == 0

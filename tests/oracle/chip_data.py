@@ -1,8 +1,9 @@
-"""Request lines and the chip data in them (BER-TLV, EMV 4.3 Book 3, Annex B; fields and refusals by docs/FORMATS.md)."""
+"""Request lines and their chip data (BER-TLV, EMV 4.3 Book 3, Annex B; fields and refusals by docs/FORMATS.md)."""
 import re
+from collections.abc import Iterator
 from typing import NamedTuple
 
-from suites import IDENTIFIERS, Suite
+from oracle.suites import IDENTIFIERS, Suite
 
 
 class Refused(Exception):
@@ -29,40 +30,54 @@ class Request(NamedTuple):
     cryptogram: bytes
 
     @property
-    def suite(self):
+    def suite(self) -> Suite:
         return Suite(self.data[1])
 
     @property
-    def dki(self):
+    def dki(self) -> int:
         return self.data[2]
 
     @property
-    def cvr(self):
+    def cvr(self) -> bytes:
         return self.data[3:8]
 
     @property
-    def script_count(self):
+    def script_count(self) -> int:
         return self.cvr[3] >> 4
 
     @property
-    def register(self):
+    def register(self) -> int:
         """The card's last online ATC register."""
         return int.from_bytes(self.data[17:19], "big")
 
     @property
-    def amount_value(self):
+    def amount_value(self) -> int:
         return int(self.amount.hex())
 
-    def is_for_an_arqc(self):
+    def is_for_an_arqc(self) -> bool:
         return self.cid & 0xC0 == 0x80 and self.cvr[0] & 0xF0 == 0xA0
 
-    def cryptogram_input(self):
-        """The 65 bytes of which the application cryptogram is the MAC (EMV 4.3 Book 2, 8.1.1, and the issuer application data)."""
-        parts = self.amount, self.other, self.country, self.tvr, self.currency, self.date, self.kind, self.number, self.aip
+    def cryptogram_input(self) -> bytes:
+        """The 65 bytes that the application cryptogram is the MAC of.
+
+        They are those of EMV 4.3 Book 2, 8.1.1, and the issuer application data.
+        """
+        parts = (
+            self.amount,
+            self.other,
+            self.country,
+            self.tvr,
+            self.currency,
+            self.date,
+            self.kind,
+            self.number,
+            self.aip,
+        )
         return b"".join(parts) + self.atc.to_bytes(2, "big") + self.data
 
 
-# The fields in the order in which they are looked at: tag, least and greatest length, and whether a request has to have it.
+# The fields in the order in which they are looked at: tag, least and greatest length, and whether a request has to have
+# it.
 FIELDS = [
     ("5a", 4, 10, True),
     ("5f34", 1, 1, False),
@@ -82,23 +97,23 @@ FIELDS = [
 ]
 
 
-def is_decimal(value):
+def is_decimal(value: bytes) -> bool:
     return value.hex().isdigit()
 
 
-def is_pan(value):
+def is_pan(value: bytes) -> bool:
     """Decimal digits, 8 to 19, then F nibbles only."""
     return re.fullmatch("[0-9]{8,19}f*", value.hex()) is not None
 
 
-def is_issuer_data(value):
+def is_issuer_data(value: bytes) -> bool:
     return value[0] == 0x0F and value[1] in IDENTIFIERS and value[16] == 0x0F
 
 
 RULES = {"5a": is_pan, "5f34": is_decimal, "9f02": is_decimal, "9f10": is_issuer_data}
 
 
-def tag_length(data, at):
+def tag_length(data: bytes, at: int) -> int | None:
     """How many bytes the tag takes, or None where it isn't whole or has more than three bytes."""
     length = 1
     if data[at] & 0x1F == 0x1F:
@@ -108,7 +123,7 @@ def tag_length(data, at):
     return length if length <= 3 and at + length <= len(data) else None
 
 
-def value_bounds(data, at):
+def value_bounds(data: bytes, at: int) -> tuple[int, int] | None:
     """Where the value begins and ends whose length stands here, or None where it isn't whole or of another form."""
     if at >= len(data):
         return None
@@ -120,7 +135,7 @@ def value_bounds(data, at):
     return (begin, end) if end <= len(data) else None
 
 
-def objects(data):
+def objects(data: bytes) -> Iterator[tuple[str, bytes]]:
     """The BER-TLV objects: tag in hexadecimal and value. Raises refusal 2 with the place of one that isn't whole."""
     at = 0
     while at < len(data):
@@ -129,20 +144,20 @@ def objects(data):
             continue
         length = tag_length(data, at)
         bounds = value_bounds(data, at + length) if length else None
-        if bounds is None:
+        if length is None or bounds is None:
             raise Refused(f"2 {at}")
         begin, end = bounds
         yield data[at : at + length].hex(), data[begin:end]
         at = end
 
 
-def is_right(tag, least, most, value):
+def is_right(tag: str, least: int, most: int, value: bytes) -> bool:
     return least <= len(value) <= most and (tag not in RULES or RULES[tag](value))
 
 
-def read_request(data):
+def read_request(data: bytes) -> Request:
     """The request that chip data says. Refusals 2 to 5 are raised in the order of their numbers."""
-    values = {}
+    values: dict[str, list[bytes]] = {}
     for tag, value in objects(data):
         values.setdefault(tag, []).append(value)
     for tag, _, _, needed in FIELDS:
@@ -188,23 +203,49 @@ WHOLE = re.compile(
 )
 
 
-def read_line(line):
-    """What a line asks, by its form: `("A", data)`, `("Q", pan, psn, command)` or `("S", pan, psn, status)`."""
+class Ask(NamedTuple):
+    """A line of the form `A`: chip data."""
+
+    data: bytes
+
+
+class Queue(NamedTuple):
+    """A line of the form `Q`."""
+
+    pan: str
+    psn: str
+    command: bytes
+
+
+class SetStatus(NamedTuple):
+    """A line of the form `S`."""
+
+    pan: str
+    psn: str
+    status: int
+
+
+def read_line(line: bytes) -> Ask | Queue | SetStatus:
+    """What a line asks, by its form."""
     whole = WHOLE.fullmatch(line)
     if whole is None:
-        raise Refused(f"1 {FRONT.match(line).end() + 1}")
+        front = FRONT.match(line)
+        raise Refused(f"1 {front.end() + 1 if front else 1}")
     part = {name: text.decode() for name, text in whole.groupdict().items() if text is not None}
     if "ask" in part:
-        return "A", bytes.fromhex(part["ask"])
+        return Ask(bytes.fromhex(part["ask"]))
     if "command" in part:
-        return "Q", part["queue_pan"], part["queue_psn"], bytes.fromhex(part["command"])
-    return "S", part["set_pan"], part["set_psn"], int(part["status"])
+        return Queue(part["queue_pan"], part["queue_psn"], bytes.fromhex(part["command"]))
+    return SetStatus(part["set_pan"], part["set_psn"], int(part["status"]))
 
 
 # EMV 4.3 Book 3, 6.5: card block, application unblock, application block, PIN change/unblock, put data, update record.
 INSTRUCTIONS = {0x16, 0x18, 0x1E, 0x24, 0xDA, 0xDC}
 
 
-def is_command(command):
-    """Whether the bytes are class, instruction, two parameters and up to 64 bytes of data of a command that the host sends."""
+def is_command(command: bytes) -> bool:
+    """Whether the bytes are a command that the host sends.
+
+    It has class, instruction, two parameters, and 0 to 64 bytes of data.
+    """
     return 4 <= len(command) <= 68 and command[0] & 0x0F == 4 and command[1] in INSTRUCTIONS

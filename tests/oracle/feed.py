@@ -1,8 +1,8 @@
-"""Feeds: the records of journals as lines with shard and index, and the standby that takes them (docs/FORMATS.md, feed lines)."""
+"""Feeds: records of journals as lines with shard and index, and the standby that takes them (docs/FORMATS.md)."""
 import re
 
-from host import WINDOW
-from journals import is_taken
+from oracle.host import WINDOW, Host
+from oracle.journals import Journals, is_taken
 
 # A feed line with its newline has so many bytes at most, and an index is below this.
 LONGEST = 524
@@ -11,10 +11,13 @@ HEAD = re.compile(rb"(?P<shard>0|[1-9][0-9]*) (?P<index>0|[1-9][0-9]*) (?P<recor
 
 
 class BadFeed(Exception):
-    """The number, from 1, of the first line that is no feed line, names no shard, or has a record that may not come next."""
+    """The number, from 1, of the first line that can't be taken.
+
+    It is no feed line, names no shard, or has a record that may not come next.
+    """
 
 
-def feed_lines(shard, record_lines):
+def feed_lines(shard: int, record_lines: list[bytes]) -> list[bytes]:
     """The feed lines of a shard's records, each of which is given as its line with the newline."""
     return [b"%d %d %s" % (shard, index, line) for index, line in enumerate(record_lines)]
 
@@ -22,15 +25,20 @@ def feed_lines(shard, record_lines):
 class Standby:
     """Takes feed lines into the journals that a host was loaded from."""
 
-    def __init__(self, host, journals):
-        self.host, self.journals = host, journals
+    def __init__(self, host: Host, journals: Journals) -> None:
+        self.host = host
+        self.journals = journals
 
-    def take(self, number, line):
-        """Takes a line of this number, with its newline; one whose index isn't the number of its shard's records changes nothing."""
+    def take(self, number: int, line: bytes) -> None:
+        """Takes a line of this number, with its newline.
+
+        One whose index isn't the number of its shard's records changes nothing.
+        """
         head = HEAD.fullmatch(line[:-1]) if len(line) <= LONGEST else None
         if head is None:
             raise BadFeed(number)
-        shard, index = int(head["shard"]), int(head["index"])
+        shard = int(head["shard"])
+        index = int(head["index"])
         if shard >= self.host.issuer.shards or index >= INDEX_END:
             raise BadFeed(number)
         if index != self.host.places[shard]:
@@ -39,6 +47,6 @@ class Standby:
             raise BadFeed(number)
         self.journals.append_line(shard, head["record"] + b"\n")
 
-    def counts(self):
+    def counts(self) -> str:
         """A line for each shard: its number, and how many records it has."""
         return "".join(f"{shard} {count}\n" for shard, count in enumerate(self.host.places))

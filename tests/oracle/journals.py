@@ -1,18 +1,19 @@
 """Journal lines, and the files that keep them: version 2, and the old version 1 (docs/FORMATS.md, journal lines)."""
 import os
 import re
+from typing import BinaryIO
 
-from chip_data import Request, is_command, is_decimal, is_issuer_data
-from host import OLD_WINDOW, WINDOW, Decided, Queued, Reply, Status
+from oracle.chip_data import Request, is_command, is_decimal, is_issuer_data
+from oracle.host import OLD_WINDOW, WINDOW, Decided, Host, Queued, Record, Reply, Status
 
 VERSION_LINE = b"v2\n"
 
 
-def padded_pan(pan):
+def padded_pan(pan: str) -> str:
     return pan.ljust(20, "f")
 
 
-def request_text(request):
+def request_text(request: Request) -> str:
     """The 85 bytes of a request, in hexadecimal."""
     parts = [
         bytes.fromhex(padded_pan(request.pan) + request.psn),
@@ -33,7 +34,7 @@ def request_text(request):
     return b"".join(parts).hex()
 
 
-def record_line(record):
+def record_line(record: Record) -> bytes:
     """The line of a record, with its newline."""
     match record:
         case Decided(request, reply):
@@ -56,14 +57,16 @@ LINE = re.compile(
 )
 
 
-def read_pan(text):
+def read_pan(text: str) -> str | None:
     """The PAN that is filled up to 20 characters, or None."""
     return text.rstrip("f") if len(text) == 20 and re.fullmatch("[0-9]{8,19}f+", text) else None
 
 
-def read_request(text):
+def read_request(text: str) -> Request | None:
     """The request of these 85 bytes in hexadecimal, or None where they are none."""
-    pan, rest, values = read_pan(text[:20]), bytes.fromhex(text[20:]), []
+    pan = read_pan(text[:20])
+    rest = bytes.fromhex(text[20:])
+    values: list[bytes] = []
     for size in SIZES:
         values.append(rest[:size])
         rest = rest[size:]
@@ -72,11 +75,25 @@ def read_request(text):
         return None
     counter = int.from_bytes(atc, "big")
     return Request(
-        pan, psn.hex(), aip, counter, tvr, date, kind, amount, other, country, currency, number, cid[0], data, cryptogram
+        pan,
+        psn.hex(),
+        aip,
+        counter,
+        tvr,
+        date,
+        kind,
+        amount,
+        other,
+        country,
+        currency,
+        number,
+        cid[0],
+        data,
+        cryptogram,
     )
 
 
-def read_record(line):
+def read_record(line: bytes) -> Record | None:
     """The record whose line this is, without its newline, or None."""
     whole = LINE.fullmatch(line)
     if whole is None:
@@ -85,58 +102,71 @@ def read_record(line):
     if "request" in part:
         request = read_request(part["request"])
         reply = Reply(bytes.fromhex(part["code"]), part["approve"] == "1", bytes.fromhex(part["data"]))
-        return request and Decided(request, reply)
+        return Decided(request, reply) if request else None
     if "command" in part:
-        pan, command = read_pan(part["queue_pan"]), bytes.fromhex(part["command"])
+        pan = read_pan(part["queue_pan"])
+        command = bytes.fromhex(part["command"])
         return Queued(pan, part["queue_psn"], command) if pan and is_command(command) else None
     pan = read_pan(part["set_pan"])
     return Status(pan, part["set_psn"], int(part["status"])) if pan else None
 
 
 class BadLine(Exception):
-    """The shard and the line, from 1, that is no record, may not come there, or isn't that of the migrated journal."""
+    """The shard and the line, from 1, that can't stand there.
+
+    It is no record, may not come there, or isn't that of the migrated journal.
+    """
 
 
 class BadOldLine(Exception):
     """The same of a shard's old journal."""
 
 
-def whole_lines(text):
+def whole_lines(text: bytes) -> list[bytes]:
     """The lines that end with a newline, without it."""
     return text.split(b"\n")[:-1]
 
 
-def first_other_line(text, expected):
-    """The number, from 1, of the line with the first byte in which two texts differ, neither of which begins the other."""
+def first_other_line(text: bytes, expected: bytes) -> int:
+    """The number, from 1, of the line with the first byte in which two texts differ.
+
+    Neither text begins the other.
+    """
     at = next(at for at, (one, other) in enumerate(zip(text, expected)) if one != other)
     return text[:at].count(b"\n") + 1
 
 
 class Journals:
-    """The journals of all shards, as files, the old ones beside them. It neither locks nor syncs them: it says what they hold, not when
-    that is safe."""
+    """The journals of all shards, as files, the old ones beside them.
 
-    def __init__(self):
-        self.olds = []
-        self.files = []
+    It neither locks nor syncs them: it says what they hold, not when that is safe.
+    """
 
-    def open_old(self, name):
+    def __init__(self) -> None:
+        self.olds: list[BinaryIO] = []
+        self.files: list[BinaryIO] = []
+
+    def open_old(self, name: str) -> None:
         """Opens one more shard's old journal; one that isn't there is made."""
         self.olds.append(opened(name))
 
-    def open(self, name):
+    def open(self, name: str) -> None:
         """Opens one more shard's journal; one that isn't there is made."""
         self.files.append(opened(name))
 
-    def load(self, host, shard):
-        """Gives a shard's records to the host: those of the old journal, of which the journal holds a copy or the beginning of one, which is
-        completed; then those behind the copy. Bytes behind the last newline are cut away."""
+    def load(self, host: Host, shard: int) -> None:
+        """Gives a shard's records to the host.
+
+        First come those of the old journal, of which the journal holds a copy or the beginning of one, which is
+        completed; then those behind the copy. Bytes behind the last newline are cut away.
+        """
         old = self.olds[shard].read()
         old = old[: old.rfind(b"\n") + 1]
         for number, line in enumerate(whole_lines(old), 1):
             if not is_taken(host, shard, line, OLD_WINDOW):
                 raise BadOldLine(shard, number)
-        file, copy = self.files[shard], VERSION_LINE + old
+        file = self.files[shard]
+        copy = VERSION_LINE + old
         text = file.read()
         if copy.startswith(text):
             file.write(copy[len(text) :])
@@ -150,27 +180,27 @@ class Journals:
         file.truncate(whole)
         file.seek(whole)
 
-    def append(self, shard, record):
+    def append(self, shard: int, record: Record) -> None:
         self.append_line(shard, record_line(record))
 
-    def append_line(self, shard, line):
+    def append_line(self, shard: int, line: bytes) -> None:
         self.files[shard].write(line)
 
-    def record_lines(self, shard):
+    def record_lines(self, shard: int) -> list[bytes]:
         """The lines of a loaded shard's records, each with its newline."""
         self.files[shard].seek(len(VERSION_LINE))
         return [line + b"\n" for line in whole_lines(self.files[shard].read())]
 
-    def close(self):
+    def close(self) -> None:
         for file in self.olds + self.files:
             file.close()
 
 
-def opened(name):
+def opened(name: str) -> BinaryIO:
     return os.fdopen(os.open(name, os.O_RDWR | os.O_CREAT, 0o666), "r+b")
 
 
-def is_taken(host, shard, line, window):
+def is_taken(host: Host, shard: int, line: bytes, window: int) -> bool:
     """Whether the line is that of a record that may come next, which the host then has."""
     record = read_record(line)
     return record is not None and host.accepts(shard, record, window)

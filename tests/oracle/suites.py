@@ -4,8 +4,8 @@ What cards with AES compute is this project's profile (docs/FORMATS.md, cryptogr
 """
 from enum import Enum
 
-from aes import cmac
-from ciphers import mac
+from oracle.aes import cmac
+from oracle.ciphers import mac
 
 
 class Suite(Enum):
@@ -18,6 +18,6 @@ class Suite(Enum):
 IDENTIFIERS = {suite.value for suite in Suite}
 
 
-def mac_of(suite, key, text):
+def mac_of(suite: Suite, key: bytes, text: bytes) -> bytes:
     """The MAC of 8 bytes by which a suite's cryptograms and sealed commands are made."""
     return cmac(key, text)[:8] if suite is Suite.AES else mac(key, text)

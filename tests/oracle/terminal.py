@@ -1,10 +1,10 @@
 """Request lines as a terminal's chip data make them."""
-from cards import application_cryptogram, tlv
-from chip_data import Request
-from suites import Suite
+from oracle.cards import application_cryptogram, tlv
+from oracle.chip_data import Request
+from oracle.suites import Suite
 
 
-def field_objects(request):
+def field_objects(request: Request) -> list[tuple[str, bytes]]:
     """Tag and value of each field of a request."""
     pan = request.pan + "f" * (len(request.pan) % 2)
     return [
@@ -26,14 +26,22 @@ def field_objects(request):
     ]
 
 
-def line_of(request):
+def line_of(request: Request) -> bytes:
     """The line of a request, each object in its shortest form."""
     return b"A " + b"".join(tlv(tag, value) for tag, value in field_objects(request)).hex().encode()
 
 
-def purchase(pan, atc, register=0, count=0, dki=1, suite=Suite.TRIPLE_DES):
+def purchase(
+    pan: str, atc: int, register: int = 0, count: int = 0, dki: int = 1, suite: Suite = Suite.TRIPLE_DES
+) -> Request:
     """A purchase over 123.45 by a card that reports its last online transaction and the commands that it ran since."""
-    data = bytes([0x0F, suite.value, dki, 0xA0, 0, 0, count << 4, 0]) + bytes(8) + b"\x0f" + register.to_bytes(2, "big") + bytes(13)
+    data = (
+        bytes([0x0F, suite.value, dki, 0xA0, 0, 0, count << 4, 0])
+        + bytes(8)
+        + b"\x0f"
+        + register.to_bytes(2, "big")
+        + bytes(13)
+    )
     return Request(
         pan=pan,
         psn="00",
@@ -53,20 +61,20 @@ def purchase(pan, atc, register=0, count=0, dki=1, suite=Suite.TRIPLE_DES):
     )
 
 
-def signed(request, master):
+def signed(request: Request, master: bytes) -> Request:
     """The request with its right cryptogram."""
     return request._replace(cryptogram=application_cryptogram(master, request))
 
 
 # Objects that terminals send beside a request's fields.
-OTHER_OBJECTS = "9F3303E0F8C8 9F34031E0300 9F350122 9F1E083132333435363738 8407A0000000041010 9F09020002 9F410400000123 00"
+OTHER_OBJECTS = (
+    "9F3303E0F8C8 9F34031E0300 9F350122 9F1E083132333435363738 8407A0000000041010 9F09020002 9F410400000123 00"
+)
 ORDER = ["5a", "9f26", "9f27", "9f10", "9f37", "9f36", "95", "9a", "9c", "9f02", "5f2a", "82", "9f1a"]
 
 
-def long_line_of(request):
+def long_line_of(request: Request) -> bytes:
     """The line of a request with tags that the host passes over, in another order, and without amount other and PSN."""
     values = dict(field_objects(request))
     text = b"".join(tlv(tag, values[tag]) for tag in ORDER).hex().upper()
     return f"A {text}{OTHER_OBJECTS.replace(' ', '')}".encode()
-
-

@@ -1,19 +1,21 @@
 """The program's words, statuses and last lines (docs/FORMATS.md, words and statuses)."""
 import re
+from collections.abc import Callable, Iterator
+from typing import BinaryIO
 
-from clearing import Book
-from configuration import LIMIT, Fault, read_configuration
-from dol import BadData, BadDol, fill_dol
-from feed import BadFeed, Standby, feed_lines
-from host import Host
-from journals import BadLine, BadOldLine, Journals
-from pin import pin_line
-from world import play
+from oracle.clearing import Book
+from oracle.configuration import LIMIT, Fault, Issuer, read_configuration
+from oracle.dol import BadData, BadDol, fill_dol
+from oracle.feed import BadFeed, Standby, feed_lines
+from oracle.host import Host
+from oracle.journals import BadLine, BadOldLine, Journals
+from oracle.pin import pin_line
+from oracle.world import play
 
 LINES = 1_048_576
 BYTES = 2_147_483_648
 
-COMMANDS = {
+COMMANDS: dict[str, tuple[set[str], set[str]]] = {
     "serve": ({"--config", "--requests", "--journal"}, {"--callers"}),
     "show": ({"--config", "--journal"}, set()),
     "clear": ({"--config", "--clearing", "--journal"}, set()),
@@ -28,32 +30,32 @@ COMMANDS = {
 class Stop(Exception):
     """A run ends with this status, and this last line after `stop`."""
 
-    def __init__(self, status, *more):
+    def __init__(self, status: int, *more: object) -> None:
         super().__init__(status)
         self.status = status
         self.last_line = f"stop {' '.join(map(str, (status, *more)))}\n"
 
 
-def number(options, name, least, most, default=None):
+def number(options: dict[str, str], name: str, least: int, most: int, default: str = "") -> int:
     text = options.get(name, default)
     if not re.fullmatch("0|[1-9][0-9]*", text) or not least <= int(text) <= most:
         raise Stop(1)
     return int(text)
 
 
-def spelled(options, name):
+def spelled(options: dict[str, str], name: str) -> bytes:
     if not re.fullmatch("([0-9A-Fa-f]{2}){1,1024}", options[name]):
         raise Stop(1)
     return bytes.fromhex(options[name])
 
 
-def matching(options, name, pattern):
+def matching(options: dict[str, str], name: str, pattern: str) -> str:
     if not re.fullmatch(pattern, options[name], re.ASCII):
         raise Stop(1)
     return options[name]
 
 
-def filled_line(dol, data):
+def filled_line(dol: bytes, data: bytes) -> str:
     try:
         return f"{fill_dol(dol, data).hex()}\n"
     except BadDol as fault:
@@ -62,13 +64,14 @@ def filled_line(dol, data):
         raise Stop(10, fault.at) from fault
 
 
-def read_words(words):
+def read_words(words: list[str]) -> tuple[str, dict[str, str]]:
     """The command and its options by name."""
-    command, *pairs = words or [None]
+    command, *pairs = words or [""]
     if command not in COMMANDS or len(pairs) % 2:
         raise Stop(1)
     needed, possible = COMMANDS[command]
-    names, values = pairs[::2], pairs[1::2]
+    names = pairs[::2]
+    values = pairs[1::2]
     if len(set(names)) < len(names) or not needed <= set(names) <= needed | possible:
         raise Stop(1)
     if any(value == "" or value.startswith("-") for value in values):
@@ -76,7 +79,7 @@ def read_words(words):
     return command, dict(zip(names, values))
 
 
-def load_issuer(options):
+def load_issuer(options: dict[str, str]) -> Issuer:
     try:
         with open(options["--config"], "rb") as file:
             data = file.read(LIMIT + 1)
@@ -88,10 +91,14 @@ def load_issuer(options):
         raise Stop(2, *fault.args) from fault
 
 
-def pin_text(options):
+def pin_text(options: dict[str, str]) -> str:
     """The text of the line that queues a PIN change."""
-    pan, psn = matching(options, "--pan", "[0-9]{8,19}"), matching(options, "--psn", "[0-9]{2}")
-    dki, salt = (bytes.fromhex(matching(options, f"--{name}", f"[0-9A-Fa-f]{{{digits}}}")) for name, digits in (("dki", 2), ("salt", 16)))
+    pan = matching(options, "--pan", "[0-9]{8,19}")
+    psn = matching(options, "--psn", "[0-9]{2}")
+    dki, salt = (
+        bytes.fromhex(matching(options, f"--{name}", f"[0-9A-Fa-f]{{{digits}}}"))
+        for name, digits in (("dki", 2), ("salt", 16))
+    )
     digits = matching(options, "--pin", "[0-9]{4,12}")
     issuer = load_issuer(options)
     if issuer.confidentiality_of(pan, psn, dki[0]) is None:
@@ -99,7 +106,7 @@ def pin_text(options):
     return f"{pin_line(issuer, pan, psn, dki[0], salt, digits)}\n"
 
 
-def load(options, journals):
+def load(options: dict[str, str], journals: Journals) -> Host:
     """The host as it stands after its configuration and its journals."""
     issuer = load_issuer(options)
     host = Host(issuer, journals.append)
@@ -119,7 +126,7 @@ def load(options, journals):
     return host
 
 
-def lines_of(name):
+def lines_of(name: str) -> Iterator[tuple[int, bytes]]:
     """The lines of a file within the limits, each with its number, and its newline where it has one."""
     try:
         with open(name, "rb") as file:
@@ -133,13 +140,16 @@ def lines_of(name):
         raise Stop(3) from fault
 
 
-def answer_all(answer, name, out):
-    """Writes the answer to each line of a file. Several callers would give the same answers where no two of them ask of one shard."""
+def answer_all(answer: Callable[[bytes], str], name: str, out: BinaryIO) -> None:
+    """Writes the answer to each line of a file.
+
+    Several callers would give the same answers if no two of them ask of one shard.
+    """
     for _, line in lines_of(name):
         out.write(answer(line.removesuffix(b"\n")).encode() + b"\n")
 
 
-def take_all(standby, name):
+def take_all(standby: Standby, name: str) -> None:
     """Takes the whole lines of a feed; bytes behind the last newline are no line."""
     try:
         for line_number, line in lines_of(name):
@@ -149,7 +159,7 @@ def take_all(standby, name):
         raise Stop(11, *fault.args) from fault
 
 
-def run_command(words, out):
+def run_command(words: list[str], out: BinaryIO) -> None:
     command, options = read_words(words)
     if command == "world":
         cards = number(options, "--cards", 1, 4096)
@@ -185,7 +195,7 @@ def run_command(words, out):
         journals.close()
 
 
-def run(words, out):
+def run(words: list[str], out: BinaryIO) -> int:
     """Runs a command, writes its text, and gives its status."""
     try:
         run_command(words, out)
