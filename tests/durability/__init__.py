@@ -1,9 +1,11 @@
 """The checks of `tests/durable`: in which order the program reaches its files, and what a failure or a kill leaves.
 
 - `watch.c`: the library that logs the program's calls, makes some fail, and kills it before a call
+- `probe.c`: a program that makes each watched call by each of its names
 - `watching`: builds that library, runs the program under it, and reads its log
 - `disk`: what the calls leave on a disk, and what a power failure may leave of it
 - `scenes`: the configurations, lines and journals of the runs
 - `tally`: what all checks share: their words, counts, and what they print of a failure
-- `ordering`, `faults`, `kills`, `files`: the checks, each a function of its name
+- `linking`: which calls a program can make, by the names that it takes from the C library; checks of these
+- `ordering`, `faults`, `kills`, `files`: the other checks, each a function of its name
 """

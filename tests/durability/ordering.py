@@ -11,16 +11,13 @@ from durability.scenes import Scene
 from durability.tally import Check, Tally, check_of, new_folder
 from durability.watching import (
     FOLDER,
-    HARMLESS,
     INPUT,
     JOURNAL,
     OUTPUT,
     NEVER_MADE,
-    WATCHED,
     Call,
     Fault,
     Run,
-    names_called,
 )
 
 # How many bytes a migration appends before it syncs, and how many the first sync of a run rewrites.
@@ -68,8 +65,6 @@ def runs_of(tally: Tally, faults: Sequence[Fault] = ()) -> Iterator[tuple[Scene,
 
 def every_call_is_seen(tally: Tally) -> None:
     """The program makes no call on a file that the library doesn't see: its journals are what the seen calls make."""
-    names = names_called(tally.watch.program)
-    tally.expect(sorted(names - HARMLESS - WATCHED), [], "the calls of the program that nothing watches")
     count = 0
     for scene, run, disk in runs_of(tally):
         odd = [call for call in run.calls if call.name in NEVER_MADE]

@@ -9,7 +9,10 @@
  *
  * A line has ten words: the call's number, the thread, the call, the class of its file, the descriptor, the result, the
  * error, two numbers, and a path or the bytes that were written, in hexadecimal. One call is made at a time, so the
- * lines have the calls' own order, whichever threads make them. */
+ * lines have the calls' own order, whichever threads make them.
+ *
+ * A C library has several names for one call: `__write` and `write`, `open64` and `open`. Which of them a program takes
+ * is its toolchain's choice. So each is watched, and logged by its plain name. */
 #define _GNU_SOURCE
 #include <dlfcn.h>
 #include <errno.h>
@@ -24,7 +27,7 @@
 #include <sys/syscall.h>
 #include <unistd.h>
 
-#define MAX_FILES 1024
+#define MAX_FILES 128
 #define MAX_FAULTS 16
 #define MAX_BYTES 2200000
 #define SHORT (-1)
@@ -189,6 +192,19 @@ int open(const char *path, int flags, ...) {
     return open_watched(path, flags, mode);
 }
 
+/* A name of another spelling for a call that is watched. */
+#define SAME(result, name, call, given) result name given __attribute__((alias(#call)))
+
+SAME(int, __open, open, (const char *, int, ...));
+SAME(int, open64, open, (const char *, int, ...));
+SAME(int, __open64, open, (const char *, int, ...));
+
+int __open_2(const char *path, int flags) {
+    return open_watched(path, flags, 0);
+}
+
+SAME(int, __open64_2, __open_2, (const char *, int));
+
 int close(int file) {
     NEXT(close_type, close);
     if (log_file < 0 || class_of(file) == OTHER) return next_close(file);
@@ -198,6 +214,8 @@ int close(int file) {
     classes[file] = OTHER;
     return (int)end_call("close", class, file, result, 0, 0, 0, 0);
 }
+
+SAME(int, __close, close, (int));
 
 int flock(int file, int how) {
     NEXT(flock_type, flock);
@@ -214,6 +232,8 @@ int ftruncate(int file, off_t length) {
     int result = fault > 0 ? fail(fault) : next_ftruncate(file, length);
     return (int)end_call("ftruncate", class_of(file), file, result, length, 0, 0, 0);
 }
+
+SAME(int, ftruncate64, ftruncate, (int, off64_t));
 
 int fchmod(int file, mode_t mode) {
     NEXT(fchmod_type, fchmod);
@@ -248,6 +268,13 @@ ssize_t read(int file, void *into, size_t count) {
     return fault > 0 ? fail(fault) : next_read(file, into, fault == SHORT ? half(count) : count);
 }
 
+SAME(ssize_t, __read, read, (int, void *, size_t));
+
+ssize_t __read_chk(int file, void *into, size_t count, size_t room) {
+    if (count > room) abort();
+    return read(file, into, count);
+}
+
 ssize_t pread(int file, void *into, size_t count, off_t at) {
     NEXT(pread_type, pread);
     if (log_file < 0) return next_pread(file, into, count, at);
@@ -255,6 +282,16 @@ ssize_t pread(int file, void *into, size_t count, off_t at) {
     ssize_t result = fault > 0 ? fail(fault) : next_pread(file, into, fault == SHORT ? half(count) : count, at);
     return end_call("pread", class_of(file), file, result, at, count, 0, 0);
 }
+
+SAME(ssize_t, pread64, pread, (int, void *, size_t, off64_t));
+SAME(ssize_t, __pread64, pread, (int, void *, size_t, off64_t));
+
+ssize_t __pread_chk(int file, void *into, size_t count, off_t at, size_t room) {
+    if (count > room) abort();
+    return pread(file, into, count, at);
+}
+
+SAME(ssize_t, __pread64_chk, __pread_chk, (int, void *, size_t, off64_t, size_t));
 
 ssize_t write(int file, const void *from, size_t count) {
     NEXT(write_type, write);
@@ -264,6 +301,8 @@ ssize_t write(int file, const void *from, size_t count) {
     return end_call("write", class_of(file), file, result, 0, count, 0, from);
 }
 
+SAME(ssize_t, __write, write, (int, const void *, size_t));
+
 ssize_t pwrite(int file, const void *from, size_t count, off_t at) {
     NEXT(pwrite_type, pwrite);
     if (log_file < 0) return next_pwrite(file, from, count, at);
@@ -271,6 +310,9 @@ ssize_t pwrite(int file, const void *from, size_t count, off_t at) {
     ssize_t result = fault > 0 ? fail(fault) : next_pwrite(file, from, fault == SHORT ? half(count) : count, at);
     return end_call("pwrite", class_of(file), file, result, at, count, 0, from);
 }
+
+SAME(ssize_t, pwrite64, pwrite, (int, const void *, size_t, off64_t));
+SAME(ssize_t, __pwrite64, pwrite, (int, const void *, size_t, off64_t));
 
 int pthread_create(pthread_t *thread, const pthread_attr_t *how, void *(*body)(void *), void *given) {
     NEXT(create_type, pthread_create);

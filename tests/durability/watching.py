@@ -1,7 +1,6 @@
 """Runs the program under the library that watches its calls, and reads what the library logged."""
 import errno
 import os
-import re
 import subprocess
 import threading
 from collections.abc import Callable, Iterable, Sequence
@@ -17,18 +16,8 @@ JOURNAL, FOLDER, INPUT, OUTPUT, OTHER, ANY = "journal", "folder", "input", "outp
 # What a fault does in place of an error: the call takes half of its bytes.
 SHORT = -1
 
-# The calls of the C library that the program may make beside the watched ones: none of them changes a file.
-HARMLESS = frozenset(
-    "__cxa_finalize __errno_location __gmon_start__ __libc_start_main __sysv_signal _ITM_deregisterTMCloneTable"
-    " _ITM_registerTMCloneTable _exit abort bcmp calloc free malloc memcmp memcpy memmove memset nanosleep"
-    " pthread_attr_destroy pthread_attr_init pthread_attr_setguardsize pthread_detach pthread_join pthread_self realloc"
-    " sched_yield statx stdout strlen".split()
-)
-# The calls that the library watches, and those of them that the program has and never makes (a wait for a thread, which
-# is made by a number, isn't logged).
-WATCHED = frozenset(
-    "close fchmod fdatasync flock fsync ftruncate open pread pthread_create pwrite read syscall write".split()
-)
+# The calls that the library watches, and that the program has and never makes (a wait for a thread, which is made by a
+# number, isn't logged).
 NEVER_MADE = ("fchmod", "syscall")
 
 
@@ -105,18 +94,15 @@ def calls_of(path: str) -> list[Call]:
         return [call_of(line) for line in log.read().split("\n")[:-1]]
 
 
+def build(made: str, *words: str) -> str:
+    """Compiles C sources, and returns the path of what it made. What the compiler checks by other names is left out."""
+    subprocess.run(["cc", "-O1", "-w", "-U_FORTIFY_SOURCE", "-o", made, *words, "-ldl"], check=True)
+    return made
+
+
 def build_library(folder: str) -> str:
     """Compiles the library into a folder, and returns its path."""
-    library = os.path.join(folder, "watch.so")
-    source = os.path.join(HERE, "watch.c")
-    subprocess.run(["cc", "-O1", "-shared", "-fPIC", "-o", library, source, "-ldl"], check=True)
-    return library
-
-
-def names_called(program: str) -> set[str]:
-    """Returns the names that the program takes from the C library."""
-    found = subprocess.run(["nm", "-D", "--undefined-only", program], capture_output=True, text=True, check=True)
-    return {re.sub(r"@.*", "", line.split()[-1]) for line in found.stdout.splitlines()}
+    return build(os.path.join(folder, "watch.so"), os.path.join(HERE, "watch.c"), "-shared", "-fPIC")
 
 
 class Watch:
@@ -134,14 +120,18 @@ class Watch:
         groups: Iterable[Sequence[str]] = (),
         faults: Iterable[Fault] = (),
         kill_at: int = 0,
+        program: str = "",
     ) -> Run:
-        """Runs the program in a folder, watched. Groups of lines go to its standard input, each after the last one's
-        answers."""
+        """Runs the program, or another one, in a folder, watched.
+
+        Groups of lines go to its standard input, each after the last one's answers.
+        """
         if os.path.exists(self.log):
             os.remove(self.log)
         more = {"LD_PRELOAD": self.library, "WATCH_LOG": self.log, "WATCH_KILL": str(kill_at)}
         more["WATCH_FAULTS"] = "".join(f"{fault};" for fault in faults)
-        status, written = self.converse(folder, words, groups, {**os.environ, **more}, None)
+        command = [program or self.program, *words]
+        status, written = self.converse(folder, command, groups, {**os.environ, **more}, None)
         return Run(words, status, written, calls_of(self.log))
 
     def run_alone(
@@ -152,20 +142,20 @@ class Watch:
         before: Optional[Callable[[], None]] = None,
     ) -> Run:
         """Runs the program without the library."""
-        status, written = self.converse(folder, words, groups, dict(os.environ), before)
+        status, written = self.converse(folder, [self.program, *words], groups, dict(os.environ), before)
         return Run(words, status, written, [])
 
     def converse(
         self,
         folder: str,
-        words: Sequence[str],
+        command: Sequence[str],
         groups: Iterable[Sequence[str]],
         environment: dict[str, str],
         before: Optional[Callable[[], None]],
     ) -> tuple[int, bytes]:
         """The status and the output of a run that is given groups of lines."""
         process = subprocess.Popen(
-            [self.program, *words],
+            command,
             cwd=folder,
             env=environment,
             stdin=subprocess.PIPE,
@@ -184,7 +174,7 @@ class Watch:
             deadline.cancel()
             process.stdout.close()
         if hung.is_set():
-            raise TimeoutError(f"{' '.join(words)} had not ended after {SECONDS:.0f} s")
+            raise TimeoutError(f"{' '.join(command)} had not ended after {SECONDS:.0f} s")
         return status, written
 
 
