@@ -50,6 +50,8 @@ fi
 OVERRIDES = """\
 # The record of the proof names the program's bytes as they are.
 issuer: unstripped-binary-or-object *
+# Configurations with keys are there: its owner alone opens it.
+issuer: non-standard-dir-perm 0700 != 0755 *etc/issuer/*
 """
 COPYRIGHT = """\
 Format: https://www.debian.org/doc/packaging-manuals/copyright-format/1.0/

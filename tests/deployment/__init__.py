@@ -1,0 +1,11 @@
+"""The checks of `tests/deploy`: what deploy/ has around the program, where no broker is needed.
+
+- `running`: runs a command of deploy/, says what a refusal has to say, and has a host's folder and its words
+- `starts`: the refusals of deploy/issuer-run, and the starts that it lets pass; deploy/look
+- `partitions`: cards cut into partitions, added to and moved with their journals; orders
+- `following`: what deploy/follow writes of journals that grow, are truncated, shortened or replaced
+- `service`: what deploy/ knows of the program; the units and their exposure, the alert rules and the dashboard
+- `package`: the Debian package, twice the same, what it has and what it doesn't
+
+Each has a list CHECKS. A check needs nothing that another one leaves.
+"""

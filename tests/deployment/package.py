@@ -1,0 +1,163 @@
+"""The Debian package: made twice with the same bytes, what it has, and that no part of it builds or proves."""
+import glob
+import json
+import os
+import shutil
+import tempfile
+from collections.abc import Iterator
+from contextlib import contextmanager
+
+from checks import Check, Tally, check_of
+from deployment.running import Ran, fails, run, run_tool
+from issuer_host.paths import HOME
+from issuer_host.proof import sum_of
+from issuer_host.service.packaging.make_deb import NOT_SHIPPED, PRIVATE
+from issuer_host.statuses import Status
+from runs import content_of, write_text
+
+ENVIRONMENT = {
+    "SOURCE_DATE_EPOCH": "1700000000",
+    "DEBFULLNAME": "A Maintainer",
+    "DEBEMAIL": "maintainer@example.org",
+}
+LICENCE = "/usr/share/common-licenses/Apache-2.0"
+
+
+class Package:
+    """A package of the program, made and unpacked in a folder. The record of its proof is a trial's."""
+
+    def __init__(self, tally: Tally, folder: str) -> None:
+        self.tally = tally
+        self.folder = folder
+        self.root = f"{folder}/root"
+        os.mkdir(f"{folder}/built")
+        shutil.copyfile(tally.program, f"{folder}/built/issuer")
+
+    def make(self) -> Ran:
+        words = ["--from", f"{self.folder}/built", "--to", self.folder]
+        return run(self.tally, "make-deb", *words, env=os.environ | ENVIRONMENT)
+
+    def write_record(self) -> None:
+        record = {"program": sum_of(self.tally.program), "sources": {}, "kit": "a trial"}
+        write_text(self.folder, "built/issuer.proved", json.dumps(record))
+
+    def made(self) -> str:
+        """Makes the package, and returns its path."""
+        self.write_record()
+        ran = self.make()
+        if ran.returncode:
+            raise ValueError(f"no package was made: {ran}")
+        return ran.stdout.strip()
+
+    def unpacked(self) -> "Package":
+        """Makes the package, and unpacks it."""
+        run_tool(self.tally, "dpkg-deb", "-x", self.made(), self.root).check_returncode()
+        return self
+
+    def path(self, name: str) -> str:
+        return os.path.join(self.root, name)
+
+
+@contextmanager
+def new_package(tally: Tally) -> Iterator[Package]:
+    with tempfile.TemporaryDirectory() as folder:
+        yield Package(tally, folder)
+
+
+def refuses_an_unproved_program(tally: Tally) -> None:
+    """No package is made of a program without the record of its proof."""
+    with new_package(tally) as package:
+        fails(tally, package.make(), "a program without its record", "./issuer prove")
+
+
+def has_the_same_bytes(tally: Tally) -> None:
+    """A package is made twice with the same bytes, and its name has the version."""
+    with new_package(tally) as package:
+        path = package.made()
+        first = sum_of(path)
+        tally.expect(sum_of(package.made()), first, "the package's sum the second time")
+        number = content_of(f"{HOME}/VERSION").strip().replace("-", "~")
+        tally.expect(os.path.basename(path), f"issuer_{number}_amd64.deb", "the package's name")
+
+
+def has_version_and_licence(tally: Tally) -> None:
+    """An installed copy has the VERSION of the sources, and the licence."""
+    with new_package(tally) as package:
+        package.unpacked()
+        installed = content_of(package.path(f"{PRIVATE}/VERSION"))
+        tally.expect(installed, content_of(f"{HOME}/VERSION"), "the package's VERSION")
+        text = content_of(package.path("usr/share/doc/issuer/copyright"))
+        tally.holds("License: Apache-2.0\n" in text and LICENCE in text, f"the licence: {text!r}")
+
+
+def runs_the_packaged_program(tally: Tally) -> None:
+    """The launcher of an installed copy runs the program."""
+    with new_package(tally) as package:
+        launcher = package.unpacked().path(f"{PRIVATE}/issuer")
+        words = ("--never-build", "world", "--cards", "2", "--steps", "9", "--seed", "1")
+        ran = run_tool(tally, launcher, *words)
+        tally.expect((ran.returncode, len(ran.stdout.splitlines())), (0, 11), f"a world, with {ran.stderr!r}")
+
+
+def has_its_commands(tally: Tally) -> None:
+    """Each command of an installed copy leads to a file that runs, and the gateway finds its dialects."""
+    with new_package(tally) as package:
+        package.unpacked()
+        commands = glob.glob(package.path("usr/bin/*"))
+        tally.holds(commands, "the package has no command")
+        for path in commands:
+            tally.holds(os.path.exists(path) and os.access(path, os.X_OK), f"{path} leads nowhere")
+        ran = run_tool(tally, package.path("usr/bin/issuer-gateway"), "--listen", "0=none")
+        tally.expect(ran.returncode, Status.USAGE, "the status of the packaged gateway without a dialect's name")
+        tally.holds("shipped are 1987-ascii, 1993-packed" in ran.stderr, f"the packaged gateway: {ran.stderr!r}")
+
+
+def has_no_part_that_builds(tally: Tally) -> None:
+    """An installed copy has no module that builds, proves, tries or packages, and the launcher refuses to."""
+    with new_package(tally) as package:
+        package.unpacked()
+        found = {name for _, folders, _ in os.walk(package.root) for name in folders}
+        tally.expect(sorted(found & set(NOT_SHIPPED)), [], "folders that aren't shipped")
+        modules = [name for _, _, names in os.walk(package.path(PRIVATE)) for name in names if name.endswith(".py")]
+        tally.holds("__init__.py" in modules, f"the package has the modules {modules}")
+        for word in ("prove", "test"):
+            ran = run_tool(tally, package.path(f"{PRIVATE}/issuer"), word)
+            is_refused = ran.returncode == Status.NO_PROGRAM and "there are no sources here" in ran.stderr
+            tally.holds(is_refused, f"`{word}` of an installed copy: status {ran.returncode}, {ran.stderr!r}")
+
+
+def lintian_is_content(tally: Tally) -> None:
+    """Lintian finds neither an error nor a warning in the package."""
+    if not shutil.which("lintian"):
+        print("left out: lintian, which isn't installed")
+        return
+    with new_package(tally) as package:
+        path = package.made()
+        ran = run_tool(tally, "lintian", "--allow-root", "--fail-on", "error,warning", path)
+        tally.holds(ran.returncode == 0, f"lintian: {ran.stdout!r} {ran.stderr!r}")
+
+
+def needs_dpkg(check: Check) -> Check:
+    """Leaves a check out where there is no dpkg-deb."""
+
+    def body(tally: Tally) -> None:
+        if shutil.which("dpkg-deb"):
+            check.body(tally)
+        else:
+            print(f"left out: {check.name}, for want of dpkg-deb")
+
+    return check._replace(body=body, may_be_empty=True)
+
+
+CHECKS = [
+    needs_dpkg(check_of(body))
+    for body in (
+        refuses_an_unproved_program,
+        has_the_same_bytes,
+        has_version_and_licence,
+        runs_the_packaged_program,
+        has_its_commands,
+        has_no_part_that_builds,
+        lintian_is_content,
+    )
+]

@@ -1,0 +1,129 @@
+"""What deploy/ knows of the program, and its units, alert rules and dashboard, by the tools that judge them."""
+import os
+import re
+import shutil
+import tempfile
+from functools import partial
+
+from checks import Check, Tally, check_of
+from deployment.running import run_tool
+from issuer_host.answers import ANSWERS, kind_of
+from issuer_host.gateway.figures import Figures
+from issuer_host.paths import HOME
+from issuer_host.request_lines import pan_of_line
+from issuer_host.service.packaging.make_deb import standby_of
+from issuer_host.statuses import NOT_RESTARTED
+from runs import content_of, write_text
+
+# The greatest exposure that `systemd-analyze security` may find.
+EXPOSURE = 1.1
+DEPLOY = os.path.join(HOME, "deploy")
+UNITS = ("issuer@.service", "issuer-standby@.service", "issuer-gateway.service")
+FIGURE = re.compile(r"\bissuer_\w+")
+# Where the figures' names stand.
+FIGURE_FILES = ("figures.py", "textfile.py")
+
+
+def unit_of(name: str) -> str:
+    """The text of a unit: the standby's is made of the host's."""
+    if name == "issuer-standby@.service":
+        return standby_of(unit_of("issuer@.service"))
+    return content_of(os.path.join(DEPLOY, "units", name))
+
+
+def knows_lines_and_answers(tally: Tally) -> None:
+    """deploy/ knows the card of each line of the examples, and the kind of each answer."""
+    example = os.path.join(HOME, "examples/scripts")
+    lines, answers = content_of(example).splitlines(), content_of(f"{example}.answers").splitlines()
+    tally.expect(len(lines), len(answers), "the example's lines, and its answers")
+    for line, answer in zip(lines, answers):
+        tally.holds(re.fullmatch(r"40000000000000(02|10|28)", pan_of_line(line)), f"the PAN of {line[:40]}")
+        tally.holds(kind_of(answer)[0] in ANSWERS, f"the kind of {answer[:40]}")
+
+
+def knows_no_card_of_other_lines(tally: Tally) -> None:
+    """A line that names no card is a ValueError."""
+    for line in ("A 5A", "A 5A0840", "A 9F02", "A zz", "x", "A 820200005A8200"):
+        try:
+            tally.fail(f"{line} has the PAN {pan_of_line(line)}")
+        except ValueError:
+            tally.passed += 1
+
+
+def standby_has_other_ports(tally: Tally) -> None:
+    """The standby's unit differs from the host's, and has ports of its own for its figures."""
+    host, standby = unit_of(UNITS[0]), unit_of(UNITS[1])
+    tally.expect(standby.count("--figures 20000"), 1, "the ports of the standby's figures in its unit")
+    tally.holds(host != standby, "the standby's unit is the host's")
+
+
+def units_restart(tally: Tally) -> None:
+    """A unit isn't restarted after a status with which it would end again."""
+    for name in UNITS:
+        found = re.search(r"^RestartPreventExitStatus=(.*)$", unit_of(name), re.MULTILINE)
+        expected = [str(int(status)) for status in sorted(NOT_RESTARTED)]
+        tally.expect(found and found[1].split(), expected, f"the statuses after which {name} isn't restarted")
+
+
+def unit_is_right(name: str, tally: Tally) -> None:
+    """systemd finds nothing wrong in a unit, and little exposure."""
+    if not shutil.which("systemd-analyze"):
+        print(f"left out: {name}, for want of systemd-analyze")
+        return
+    with tempfile.TemporaryDirectory() as folder:
+        path = os.path.join(folder, name)
+        write_text(folder, name, re.sub("^ExecStart=.*", "ExecStart=/bin/true", unit_of(name), flags=re.MULTILINE))
+        ran = run_tool(tally, "systemd-analyze", "verify", "--man=no", path)
+        tally.expect((ran.returncode, ran.stderr.strip()), (0, ""), f"what systemd says of {name}")
+        ran = run_tool(tally, "systemd-analyze", "security", "--offline=true", path)
+        found = re.search(r"Overall exposure level for \S+: ([0-9.]+)", ran.stdout)
+        tally.holds(found and float(found[1]) <= EXPOSURE, f"{name} has exposure {found and found[1]}")
+
+
+def alert_rules_are_right(tally: Tally) -> None:
+    """Prometheus takes the alert rules, and they raise what their tests say."""
+    if not shutil.which("promtool"):
+        print("left out: the alert rules, for want of promtool")
+        return
+    for words in (["check", "rules", "alerts.yml"], ["test", "rules", "alerts_test.yml"]):
+        ran = run_tool(tally, "promtool", *words, cwd=DEPLOY)
+        tally.holds(ran.returncode == 0, f"the alert rules: {ran.stdout!r} {ran.stderr!r}")
+
+
+def figures_told() -> set[str]:
+    """The names of the figures that the bridge, the commands and the gateway write."""
+    found = set()
+    for name in FIGURE_FILES:
+        text = content_of(os.path.join(HOME, "issuer_host/service", name))
+        found |= {match.strip('"') for match in re.findall(r'"issuer_\w+"', text)}
+    return found | {name_of_figure(name) for name in re.findall(r"(?m)^# TYPE (\w+)", Figures(1).text())}
+
+
+def name_of_figure(name: str) -> str:
+    """A figure's name without the endings that Prometheus adds."""
+    return re.sub("_(total|bucket|count)$", "", name)
+
+
+def names_figures_that_exist(name: str, tally: Tally) -> None:
+    """A file of deploy/ names only figures that something writes."""
+    used = {name_of_figure(figure) for figure in FIGURE.findall(content_of(os.path.join(DEPLOY, name)))}
+    tally.holds(used, f"{name} names no figure")
+    tally.expect(used - figures_told(), set(), f"{name}: the figures that nothing writes")
+
+
+CHECKS = [
+    *map(check_of, (knows_lines_and_answers, knows_no_card_of_other_lines, standby_has_other_ports, units_restart)),
+    *(
+        Check(f"unit_{name.partition('.')[0].strip('@')}", f"{name} by systemd", partial(unit_is_right, name), True)
+        for name in UNITS
+    ),
+    check_of(alert_rules_are_right)._replace(may_be_empty=True),
+    *(
+        Check(
+            f"figures_of_{name.partition('.')[0]}",
+            f"{name} names known figures",
+            partial(names_figures_that_exist, name),
+        )
+        for name in ("alerts.yml", "dashboard.json")
+    ),
+]
