@@ -1,12 +1,15 @@
-"""A configuration of many cards over shards, and request lines with their right cryptograms, of cards with keys for triple DES or for
-AES. It wants Python's package `cryptography`."""
+"""A configuration of many cards over shards, and request lines with their right cryptograms.
+
+The cards have keys for triple DES or for AES. It wants Python's package `cryptography`.
+"""
 import json
 import warnings
+from typing import Any, Protocol
 
 warnings.filterwarnings("ignore")
-from cryptography.hazmat.primitives.ciphers import Cipher, modes  # noqa: E402
-from cryptography.hazmat.primitives.ciphers.algorithms import AES  # noqa: E402
-from cryptography.hazmat.primitives.cmac import CMAC  # noqa: E402
+from cryptography.hazmat.primitives.ciphers import Cipher, modes
+from cryptography.hazmat.primitives.ciphers.algorithms import AES
+from cryptography.hazmat.primitives.cmac import CMAC
 
 try:
     from cryptography.hazmat.decrepit.ciphers.algorithms import TripleDES
@@ -16,31 +19,44 @@ except ImportError:
 MASTER = bytes(range(16))
 
 
+class Cards(Protocol):
+    """The keys and cryptograms of a suite's cards."""
+
+    # The cryptogram version's byte in the issuer application data, as hexadecimal digits.
+    identifier: str
+
+    def card_key(self, pan: str) -> bytes:
+        """The card's master key, of the issuer's key `MASTER`."""
+
+    def session_key(self, key: bytes, counter: int) -> bytes:
+        """The session key of an ATC."""
+
+    def mac(self, key: bytes, text: bytes) -> bytes:
+        """The eight bytes of a cryptogram."""
+
+
 class TripleDesCards:
     """Keys and cryptograms of cards with keys for triple DES (EMV 4.3 Book 2, A1.2 to A1.4)."""
 
     identifier = "A5"
 
-    @staticmethod
-    def encipher(key, block):
-        return Cipher(TripleDES(key), modes.ECB()).encryptor().update(block)
+    def encipher(self, key: bytes, block: bytes) -> bytes:
+        enciphered: bytes = Cipher(TripleDES(key), modes.ECB()).encryptor().update(block)
+        return enciphered
 
-    @classmethod
-    def mac(cls, key, text):
+    def mac(self, key: bytes, text: bytes) -> bytes:
         text += b"\x80"
         text += b"\0" * (-len(text) % 8)
         chained = Cipher(TripleDES(key[:8] * 3), modes.CBC(b"\0" * 8)).encryptor().update(text[:-8])
-        return cls.encipher(key, bytes(a ^ b for a, b in zip(chained[-8:], text[-8:])))
+        return self.encipher(key, bytes(a ^ b for a, b in zip(chained[-8:], text[-8:])))
 
-    @classmethod
-    def card_key(cls, pan):
+    def card_key(self, pan: str) -> bytes:
         digits = bytes.fromhex((pan + "00")[-16:])
-        return odd(cls.encipher(MASTER, digits) + cls.encipher(MASTER, bytes(byte ^ 0xFF for byte in digits)))
+        return odd(self.encipher(MASTER, digits) + self.encipher(MASTER, bytes(byte ^ 0xFF for byte in digits)))
 
-    @classmethod
-    def session_key(cls, key, counter):
-        halves = (cls.encipher(key, counter.to_bytes(2, "big") + bytes([byte, 0, 0, 0, 0, 0])) for byte in (0xF0, 0x0F))
-        return b"".join(halves)
+    def session_key(self, key: bytes, counter: int) -> bytes:
+        atc = counter.to_bytes(2, "big")
+        return b"".join(self.encipher(key, atc + bytes([byte, 0, 0, 0, 0, 0])) for byte in (0xF0, 0x0F))
 
 
 class AesCards:
@@ -48,36 +64,36 @@ class AesCards:
 
     identifier = "A6"
 
-    @staticmethod
-    def encipher(key, block):
-        return Cipher(AES(key), modes.ECB()).encryptor().update(block)
+    def encipher(self, key: bytes, block: bytes) -> bytes:
+        enciphered: bytes = Cipher(AES(key), modes.ECB()).encryptor().update(block)
+        return enciphered
 
-    @staticmethod
-    def mac(key, text):
+    def mac(self, key: bytes, text: bytes) -> bytes:
         cmac = CMAC(AES(key))
         cmac.update(text)
-        return cmac.finalize()[:8]
+        whole: bytes = cmac.finalize()
+        return whole[:8]
 
-    @classmethod
-    def card_key(cls, pan):
-        return cls.encipher(MASTER, bytes.fromhex((pan + "00").zfill(32)))
+    def card_key(self, pan: str) -> bytes:
+        return self.encipher(MASTER, bytes.fromhex((pan + "00").zfill(32)))
 
-    @classmethod
-    def session_key(cls, key, counter):
-        return cls.encipher(key, counter.to_bytes(2, "big") + bytes(14))
+    def session_key(self, key: bytes, counter: int) -> bytes:
+        return self.encipher(key, counter.to_bytes(2, "big") + bytes(14))
 
 
+TRIPLE_DES, OF_AES = TripleDesCards(), AesCards()
 # The suites of cards that are measured, by the name that is printed.
-SUITES = {"triple DES": TripleDesCards, "AES": AesCards}
+SUITES: dict[str, Cards] = {"triple DES": TRIPLE_DES, "AES": OF_AES}
 
 
-def odd(key):
+def odd(key: bytes) -> bytes:
+    """The key with the odd parity of DES."""
     return bytes((byte & 0xFE) | (bin(byte >> 1).count("1") & 1 ^ 1) for byte in key)
 
 
-def line(suite, pan, key, counter):
+def line(suite: Cards, pan: str, key: bytes, counter: int) -> str:
     data = f"0F{suite.identifier}01A00000000000000000000000000F000000000000000000000000000000"
-    text = f"00000001234500000000000002760000008000097826011500" + f"1A2B3C4D3900{counter:04X}" + data
+    text = f"000000012345000000000000027600000080000978260115001A2B3C4D3900{counter:04X}{data}"
     cryptogram = suite.mac(suite.session_key(key, counter), bytes.fromhex(text)).hex().upper()
     return (
         f"A 5A08{pan}9F2608{cryptogram}9F2701809F1020{data}9F37041A2B3C4D9F3602{counter:04X}950500000080009A03260115"
@@ -86,11 +102,11 @@ def line(suite, pan, key, counter):
     )
 
 
-def pan_of(card):
+def pan_of(card: int) -> str:
     return f"4{card:015d}"
 
 
-def row(most, approve):
+def row(most: int, approve: bool) -> dict[str, Any]:
     zeros = "0000000000"
     return {
         "tvr_mask": zeros,
@@ -106,20 +122,20 @@ def row(most, approve):
     }
 
 
-def configuration(cards, shards, suite=TripleDesCards):
-    """One key set, with keys for AES if the cards want them, so many cards, and a table that approves up to an amount of 500000."""
-    names = ("ac", "smi", "aes_ac", "aes_smi") if suite is AesCards else ("ac", "smi")
+def configuration(cards: int, shards: int, suite: Cards = TRIPLE_DES) -> str:
+    """One key set, with keys for AES if the cards want them, so many cards, and a table that approves up to 500000."""
+    names = ("ac", "smi", "aes_ac", "aes_smi") if suite is OF_AES else ("ac", "smi")
     return json.dumps(
         {
             "shards": shards,
             "keys": [{"dki": 1, "option": "A"} | dict.fromkeys(names, MASTER.hex())],
             "cards": [{"pan": pan_of(card), "psn": "00", "method": 1 + card % 2} for card in range(cards)],
-            "table": [row(500000, True), row(999999999999, False)],
+            "table": [row(500_000, True), row(999_999_999_999, False)],
         }
     )
 
 
-def distinct_lines(cards, counters, suite=TripleDesCards):
+def distinct_lines(cards: int, counters: int, suite: Cards = TRIPLE_DES) -> list[str]:
     """A line for each counter of each card, card after card."""
     pans = [pan_of(card) for card in range(cards)]
     keys = [suite.card_key(pan) for pan in pans]
