@@ -1,0 +1,97 @@
+"""The messages of a partition's stream, and their text.
+
+    barrier NUMBER NAME MACHINE     a bridge becomes the active one: records of this NAME count from here on
+    records NAME SEQUENCE           and feed lines, SHARD PLACE RECORD: what the host of that bridge recorded
+    mark WORD                       nothing; who wrote it knows how far it has read
+
+A name is new for each barrier. A sequence only tells messages apart.
+"""
+import re
+from typing import NamedTuple, Union
+
+from issuer_host.limits import MAX_SHARDS
+
+NAME = re.compile(r"[0-9A-Za-z_.-]{1,64}")
+NUMBER = re.compile(r"0|[1-9][0-9]{0,17}")
+
+
+class MessageFault(Exception):
+    """A text that is no message of a stream."""
+
+
+class Record(NamedTuple):
+    """A record at its place: as a feed has it."""
+
+    shard: int
+    place: int
+    text: str
+
+    @property
+    def at(self) -> tuple[int, int]:
+        return self.shard, self.place
+
+
+class Barrier(NamedTuple):
+    number: int
+    name: str
+    machine: str
+
+
+class Records(NamedTuple):
+    name: str
+    sequence: int
+    records: tuple[Record, ...]
+
+
+class Mark(NamedTuple):
+    word: str
+
+
+Message = Union[Barrier, Records, Mark]
+
+
+def text_of(message: Message) -> str:
+    """Returns a message as it stands in the stream."""
+    if isinstance(message, Barrier):
+        return f"barrier {message.number} {message.name} {message.machine}\n"
+    if isinstance(message, Mark):
+        return f"mark {message.word}\n"
+    lines = (f"{record.shard} {record.place} {record.text}\n" for record in message.records)
+    return f"records {message.name} {message.sequence}\n" + "".join(lines)
+
+
+def parse(text: str) -> Message:
+    """Returns the message of a text. Raises MessageFault if it is none."""
+    if not text.endswith("\n"):
+        raise MessageFault(f"its last line isn't ended: {text[-40:]!r}")
+    head, *lines = text.split("\n")[:-1]
+    kind, *words = head.split(" ")
+    if kind == "records" and len(words) == 2:
+        return Records(name_of(words[0]), number_of(words[1]), tuple(map(record_of, lines)))
+    if lines:
+        raise MessageFault(f"lines stand behind {head[:40]!r}")
+    if kind == "barrier" and len(words) == 3:
+        return Barrier(number_of(words[0]), name_of(words[1]), name_of(words[2]))
+    if kind == "mark" and len(words) == 1:
+        return Mark(name_of(words[0]))
+    raise MessageFault(f"no message begins with {head[:40]!r}")
+
+
+def record_of(line: str) -> Record:
+    shard, _, rest = line.partition(" ")
+    place, _, text = rest.partition(" ")
+    if not text or number_of(shard) >= MAX_SHARDS:
+        raise MessageFault(f"no feed line is {line[:40]!r}")
+    return Record(number_of(shard), number_of(place), text)
+
+
+def name_of(word: str) -> str:
+    if not NAME.fullmatch(word):
+        raise MessageFault(f"no name is {word[:40]!r}")
+    return word
+
+
+def number_of(word: str) -> int:
+    if not NUMBER.fullmatch(word):
+        raise MessageFault(f"no number is {word[:40]!r}")
+    return int(word)
