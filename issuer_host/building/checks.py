@@ -6,6 +6,7 @@ WITHOUT_PROGRAM = (
     "tests/lint",
     "tests/names",
     "tests/card",
+    "tests/replication --short",
     "tests/definitions --check",
     "tests/crates",
     "tests/figures",
