@@ -1,0 +1,6 @@
+"""The checks of `tests/names`: that each name in the pages exists in the tree.
+
+- `tree`: what the tree has: the words of each crate and of the scripts, options, crates, edits
+- `pages`: a page, span by span and block by block
+- `lists`: the items of docs/WHAT-GOES-WRONG.md, the reading lists of docs/DEFINITIONS.md, CHANGELOG.md beside VERSION
+"""
