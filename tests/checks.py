@@ -188,8 +188,11 @@ def run_check(tally: Tally, check: Check) -> None:
         tally.fail("the check compared nothing")
 
 
-def run_script(options: argparse.Namespace, checks: Iterable[Check]) -> NoReturn:
-    """Lists the checks, or runs those that the words name, and ends the script."""
+def run_script(options: argparse.Namespace, checks: Iterable[Check], alone: str = "") -> NoReturn:
+    """Lists the checks, or runs those that the words name, and ends the script.
+
+    `alone` is how the script is called that runs a check alone, if its path doesn't do.
+    """
     every = list(checks)
     twice = {check.name for check in every if sum(other.name == check.name for other in every) > 1}
     if twice:
@@ -200,7 +203,7 @@ def run_script(options: argparse.Namespace, checks: Iterable[Check]) -> NoReturn
         for check in every:
             print(f"{check.name}: {check.does}" if check.does else check.name)
         sys.exit(0)
-    tally = Tally(getattr(options, "program", ""), script_name())
+    tally = Tally(getattr(options, "program", ""), alone or script_name())
     for check in chosen_of(every, options.names):
         run_check(tally, check)
     tally.end()

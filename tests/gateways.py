@@ -1,5 +1,4 @@
 """What the tests of the gateway share: an issuer of many cards, a gateway that is started and ended, peers."""
-
 import asyncio
 import json
 import os
@@ -13,37 +12,20 @@ import time
 from collections.abc import Iterator
 from typing import Any, Optional
 
-HOME = os.path.dirname(os.path.dirname(os.path.abspath(__file__)))
-sys.dont_write_bytecode = True
-sys.path[:0] = [HOME, os.path.join(HOME, "tools")]
+from checks import Tally
+from issuer_host import journals
+from issuer_host.paths import HOME
 
-from issuer_host import journals  # noqa: E402
-from switch.cards import cards_of, request_of, verdict_of  # noqa: E402
-from switch.link import Link, Place  # noqa: E402
-from switch.messages import Codec, Message  # noqa: E402
+sys.path.append(os.path.join(HOME, "tools"))
+from switch.cards import cards_of, request_of, verdict_of
+from switch.link import Link, Place
+from switch.messages import Codec, Message
 
 DIALECTS = ("1987-ascii", "1993-packed")
 CODECS = {name: Codec(name) for name in DIALECTS}
 LISTENING = re.compile(r"(ISO 8583.*) on 127\.0\.0\.1 port ([0-9]+)")
 START_SECONDS, END_SECONDS = 60.0, 30.0
 ZEROS = "0" * 10
-
-
-class Tally:
-    """Counts what held and what didn't."""
-
-    def __init__(self) -> None:
-        self.passed = self.failed = 0
-
-    def check(self, holds: object, what: str) -> None:
-        self.passed += bool(holds)
-        if not holds:
-            self.failed += 1
-            print(f"wrong: {what}", flush=True)
-
-    def end(self) -> int:
-        print(f"{self.passed} passed, {self.failed} failed")
-        return int(self.failed > 0)
 
 
 def configuration(cards: int, shards: int = 2) -> dict[str, Any]:
@@ -279,4 +261,4 @@ class GoodPeer:
 
     def check(self, tally: Tally, what: str) -> None:
         good = self.asked > 0 and self.right == self.asked
-        tally.check(good, f"{what}: a good peer got {self.right} right answers to {self.asked}: {self.wrong[:2]}")
+        tally.holds(good, f"{what}: a good peer got {self.right} right answers to {self.asked}: {self.wrong[:2]}")
