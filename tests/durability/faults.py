@@ -11,7 +11,7 @@ from issuer_host.journals import journal_path, old_journal_path
 from durability import scenes
 from durability.disk import Disk, read_journals, records_of
 from durability.kills import loads
-from durability.ordering import ADDS, HAS_RECORD
+from durability.ordering import ADDS, HAS_RECORD, before_lines, undisturbed
 from durability.scenes import Scene
 from durability.tally import Check, Tally, check_of, new_folder
 from durability.watching import ANY, FOLDER, INPUT, JOURNAL, OUTPUT, SHORT, Fault, Run
@@ -25,23 +25,9 @@ NEVER_ENDS = 0
 PIPE_BYTES = 4_096
 
 
-def undisturbed(tally: Tally, scene: Scene) -> Run:
-    """A scene's run without a fault."""
-    with new_folder() as folder:
-        scene.prepare(folder)
-        return tally.watch.run(folder, scene.words, scene.groups)
-
-
 def numbers_of(run: Run, name: str, file_class: str) -> int:
     """How many calls of this name a run makes on files of this class."""
     return sum(call.name == name and file_class in (call.file_class, ANY) for call in run.calls)
-
-
-def before_lines(run: Run, name: str, file_class: str) -> int:
-    """How many of these calls a run makes before it opens its lines."""
-    paths = [call.path for call in run.calls]
-    lines = paths.index(scenes.STANDARD_INPUT) if scenes.STANDARD_INPUT in paths else len(paths)
-    return sum(call.name == name and call.file_class == file_class for call in run.calls[:lines])
 
 
 def with_faults(tally: Tally, scene: Scene, faults: Sequence[Fault], refused: Iterable[int] = (1,)) -> Run:

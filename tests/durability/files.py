@@ -2,12 +2,12 @@
 import copy
 import os
 import shutil
-import socket
+import stat
 import subprocess
 import sys
 import tempfile
 from collections.abc import Callable, Iterator
-from contextlib import contextmanager
+from contextlib import ExitStack, contextmanager
 from typing import Optional
 
 from issuer_host.journals import journal_path, old_journal_path
@@ -15,6 +15,7 @@ from issuer_host.paths import HOME
 
 from durability import scenes
 from durability.disk import Image, read_journals, write_journals
+from durability.ordering import undisturbed
 from durability.scenes import Scene
 from durability.tally import Check, Tally, check_of, new_folder
 from durability.watching import OTHER, Fault, Run, Watch
@@ -51,14 +52,9 @@ def strange_files() -> Iterator[tuple[str, Callable[[str, str], None]]]:
     yield "a symbolic link to nothing", lambda path, other: os.symlink(f"{other}-not", path)
     yield "a folder", lambda path, other: os.mkdir(path)
     yield "a pipe", lambda path, other: os.mkfifo(path)
-    yield "a socket", bind_socket
+    yield "a socket", lambda path, other: os.mknod(path, stat.S_IFSOCK | 0o600)
     yield "a file that everyone may write", lambda path, other: link_with_mode(path, other, 0o666)
     yield "a file that others may write", lambda path, other: link_with_mode(path, other, 0o602)
-
-
-def bind_socket(path: str, other: str) -> None:
-    with socket.socket(socket.AF_UNIX) as bound:
-        bound.bind(path)
 
 
 def link_with_mode(path: str, other: str, mode: int) -> None:
@@ -70,11 +66,11 @@ def state_of(folder: str) -> list[tuple[str, int, int, bytes]]:
     """The files of a folder: their names, modes, times of change (but the first journal's) and bytes."""
     found = []
     for entry in sorted(os.scandir(folder), key=lambda entry: entry.name):
-        stat = entry.stat(follow_symlinks=False)
+        status = entry.stat(follow_symlinks=False)
         is_plain = entry.is_file(follow_symlinks=False)
         is_first = entry.name == journal_path("journal", 0)
         with open(entry.path if is_plain else os.devnull, "rb") as data:
-            found.append((entry.name, stat.st_mode, 0 if is_first else stat.st_mtime_ns, data.read()))
+            found.append((entry.name, status.st_mode, 0 if is_first else status.st_mtime_ns, data.read()))
     return found
 
 
@@ -122,6 +118,9 @@ def old_journals_need_not_be_writable(tally: Tally) -> None:
     """Old journals may be files that can't be written, for a user who isn't root; a journal may not."""
     old = scenes.old_journals_of(2, (30, 4))
     with as_nobody(tally.watch, old) as (watch, folder, become):
+        if watch is None:
+            tally.note("left out: nobody can't run the program here")
+            return
         for name in old:
             os.chmod(os.path.join(folder, name), 0o400)
         run = watch.run_alone(folder, scenes.show(), before=become)
@@ -134,19 +133,37 @@ def old_journals_need_not_be_writable(tally: Tally) -> None:
 
 
 @contextmanager
-def as_nobody(watch: Watch, journals: Image) -> Iterator[tuple[Watch, str, Optional[Callable[[], None]]]]:
-    """A folder with journals, and the program, for a user who isn't root: this one, or nobody."""
-    with new_folder() as folder, tempfile.TemporaryDirectory() as place:
+def as_nobody(watch: Watch, journals: Image) -> Iterator[tuple[Optional[Watch], str, Optional[Callable[[], None]]]]:
+    """A folder with journals, and the program, for a user who isn't root: this one, or nobody, if it can run there."""
+    with new_folder() as folder, ExitStack() as places:
         scenes.served("", 1, journals, ()).prepare(folder)
         if os.geteuid() != 0:
             yield watch, folder, None
             return
-        os.chmod(place, 0o755)
+        program = program_of_nobody(watch.program, places)
         own = copy.copy(watch)
-        own.program = shutil.copy(watch.program, place)
+        own.program = program
         for name in ("", *os.listdir(folder)):
             os.chown(os.path.join(folder, name), NOBODY, NOBODY)
-        yield own, folder, lambda: os.setresuid(NOBODY, NOBODY, NOBODY)
+        yield own if program else None, folder, become_nobody
+
+
+def program_of_nobody(program: str, places: ExitStack) -> str:
+    """A copy of the program that nobody can run, in one of the folders for temporary files, or "" if none has one."""
+    for room in (tempfile.gettempdir(), "/tmp", "/var/tmp"):
+        place = places.enter_context(tempfile.TemporaryDirectory(dir=room))
+        os.chmod(place, 0o755)
+        copied = shutil.copy(program, place)
+        try:
+            subprocess.run([copied], preexec_fn=become_nobody, cwd="/", capture_output=True, check=False)
+            return copied
+        except (OSError, subprocess.SubprocessError):
+            continue
+    return ""
+
+
+def become_nobody() -> None:
+    os.setresuid(NOBODY, NOBODY, NOBODY)
 
 
 def an_old_journal_may_lose_what_was_copied(tally: Tally) -> None:
@@ -169,12 +186,21 @@ def words_that_are_no_text_are_no_command(tally: Tally) -> None:
         scenes.served("", 1, {}, ()).prepare(folder)
         run = tally.watch.run_alone(folder, [*scenes.show()[:-1], os.fsdecode(b"journal\xff")])
         tally.expect((run.status, run.answers), (1, ["stop 1"]), "a name that isn't text: the status and the last line")
-        for number in (1, 2, 3):
+        held = handles_of_nothing(tally)
+        tally.expect(len(held), 3, "how many handles of the empty device a start opens")
+        for number in held:
             run = tally.watch.run(folder, scenes.show(), faults=[Fault("open", OTHER, first=number)])
             tally.expect(
                 (run.status, run.written), (4, b""), f"no handle of number {number}: the status and the output"
             )
         tally.expect(read_journals(folder), {}, "the journals after such starts")
+
+
+def handles_of_nothing(tally: Tally) -> list[int]:
+    """Which openings of a device at a start, counted from 1, are those of the empty device."""
+    run = undisturbed(tally, scenes.served("", 1, {}, ()))
+    devices = [call.path for call in run.calls if call.name == "open" and call.file_class == OTHER]
+    return [number for number, path in enumerate(devices, 1) if path == os.devnull]
 
 
 def a_limit_of_file_size_is_a_full_disk(tally: Tally) -> None:

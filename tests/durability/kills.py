@@ -12,14 +12,12 @@ from issuer_host.journals import journal_path, old_journal_path
 
 from durability import scenes
 from durability.disk import Disk, Image, read_journals, records_of
-from durability.ordering import HAS_RECORD
+from durability.ordering import HAS_RECORD, UNSYNCED, before_lines, undisturbed
 from durability.scenes import Scene
 from durability.tally import Check, Tally, check_of, new_folder
 from durability.watching import JOURNAL, SHORT, Fault, Run
 
 SEED = 67
-# The number of a sync of a journal that is behind those of the start.
-AFTER_THE_START = 10
 BELOW_THE_WINDOW = "refused 10 "
 
 
@@ -156,17 +154,28 @@ def a_migration_goes_on(tally: Tally) -> None:
 
 
 def gone_on_with(kills: Kills, scene: Scene) -> None:
-    """Kills a start that goes on with a copy which another one began."""
+    """Kills a start that goes on with a copy which another one began: the sync of its first step failed."""
+    number = sync_of_the_first_step(undisturbed(kills.tally, scene))
     with new_folder() as folder:
         scene.prepare(folder)
-        run = kills.tally.watch.run(
-            folder, scene.words, kill_at=0, faults=[Fault("fsync", JOURNAL, first=len(scene.journals) * 2 + 2)]
-        )
+        run = kills.tally.watch.run(folder, scene.words, faults=[Fault("fsync", JOURNAL, first=number)])
         kills.tally.expect(run.status, 5, f"{scene.name}: the status of a start whose sync fails")
         disk = Disk(scene.journals)
         disk.take_all(run.calls)
         journals = read_journals(folder)
+    begun = len(journals[journal_path("journal", 0)])
+    kills.tally.holds(begun > UNSYNCED, f"{scene.name}: a start whose sync fails has copied {begun} bytes alone")
     kills.at_each_call(scene._replace(name=f"{scene.name}, gone on with"), journals, disk)
+
+
+def sync_of_the_first_step(run: Run) -> int:
+    """The number of the sync of a journal behind the first whole step of a migration."""
+    count = 1
+    for call in run.calls:
+        if call.name == "pwrite" and len(call.data) == UNSYNCED:
+            break
+        count += call.name == "fsync" and call.file_class == JOURNAL
+    return count
 
 
 def what_a_failed_sync_left_is_never_answered_for(tally: Tally) -> None:
@@ -185,13 +194,20 @@ def no_answer_is_lost_after_faults(tally: Tally) -> None:
     """A run in which many syncs or writes fail is killed before each call: no record of an answer is lost."""
     kills = Kills(tally, depth_of(tally))
     lines = scenes.mixed_lines(kills.depth.lines)
-    syncs = [Fault("fsync", JOURNAL, first=AFTER_THE_START, step=3, times=0)]
-    torn = Fault("pwrite", JOURNAL, first=AFTER_THE_START // 2, step=4, times=0, what=SHORT)
-    writes = [torn, torn._replace(first=torn.first + 1, what=errno.ENOSPC)]
-    for name, faults, forgets in (("syncs", syncs, True), ("syncs", syncs, False), ("writes", writes, False)):
+    for name, forgets in (("syncs", True), ("syncs", False), ("writes", False)):
         scene = scenes.served(f"one caller, whose {name} fail", 1, scenes.journals_of(2, 5), lines)
+        faults = faults_of_lines(undisturbed(tally, scene), name)
         kills.at_each_call(scene, scene.journals, Disk(scene.journals, forgets), faults)
     kills.note()
+
+
+def faults_of_lines(run: Run, name: str) -> list[Fault]:
+    """Faults of many syncs, or of many writes to journals, from the first line of a run on."""
+    if name == "syncs":
+        first = before_lines(run, "fsync", JOURNAL) + 1
+        return [Fault("fsync", JOURNAL, first=first, step=3, times=0)]
+    torn = Fault("pwrite", JOURNAL, before_lines(run, "pwrite", JOURNAL) + 1, step=4, times=0, what=SHORT)
+    return [torn, torn._replace(first=torn.first + 1, what=errno.ENOSPC)]
 
 
 def in_doubt(tally: Tally, scene: Scene, line: int) -> Iterator[tuple[Image, Disk]]:

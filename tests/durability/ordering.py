@@ -24,8 +24,6 @@ from durability.watching import (
 UNSYNCED = 65_536
 ADDS = ("fresh", "queued", "set")
 HAS_RECORD = (*ADDS, "kept")
-# The number of a sync of a journal that is behind those of each scene's start.
-AFTER_THE_START = 17
 
 
 def scenes_of(tally: Tally) -> list[Scene]:
@@ -48,19 +46,44 @@ def scenes_of(tally: Tally) -> list[Scene]:
     return found
 
 
-def runs_of(tally: Tally, faults: Sequence[Fault] = ()) -> Iterator[tuple[Scene, Run, Disk]]:
-    """Each scene's run, with the disk as it was before. With faults, those of a host that answers lines."""
+def runs_of(tally: Tally) -> Iterator[tuple[Scene, Run, Disk]]:
+    """Each scene's run, with the disk as it was before."""
     for scene in scenes_of(tally):
-        if faults and not scene.groups:
-            continue
-        with new_folder() as folder:
-            scene.prepare(folder)
-            disk = Disk.of_folder(folder)
-            run = tally.watch.run(folder, scene.words, scene.groups, faults)
-            tally.expect(run.status, 0, f"{scene.name}: its status")
-            held = read_journals(folder)
-        yield scene, run, disk
-        tally.expect(disk.held(), held, f"{scene.name}: the journals by the calls that were seen")
+        yield from run_of(tally, scene, ())
+
+
+def runs_whose_syncs_fail(tally: Tally) -> Iterator[tuple[Scene, Run, Disk]]:
+    """The run of each scene that answers lines, where every third sync fails from the first line on."""
+    for scene in scenes_of(tally):
+        if scene.groups:
+            first = before_lines(undisturbed(tally, scene), "fsync", JOURNAL) + 1
+            yield from run_of(tally, scene, [Fault("fsync", JOURNAL, first=first, step=3, times=0)])
+
+
+def run_of(tally: Tally, scene: Scene, faults: Sequence[Fault]) -> Iterator[tuple[Scene, Run, Disk]]:
+    """A scene's run, with the disk as it was before. At the end the journals are compared."""
+    with new_folder() as folder:
+        scene.prepare(folder)
+        disk = Disk.of_folder(folder)
+        run = tally.watch.run(folder, scene.words, scene.groups, faults)
+        tally.expect(run.status, 0, f"{scene.name}: its status")
+        held = read_journals(folder)
+    yield scene, run, disk
+    tally.expect(disk.held(), held, f"{scene.name}: the journals by the calls that were seen")
+
+
+def undisturbed(tally: Tally, scene: Scene) -> Run:
+    """A scene's run without a fault."""
+    with new_folder() as folder:
+        scene.prepare(folder)
+        return tally.watch.run(folder, scene.words, scene.groups)
+
+
+def before_lines(run: Run, name: str, file_class: str) -> int:
+    """How many calls of this name a run makes on files of this class before it opens its lines."""
+    paths = [call.path for call in run.calls]
+    lines = paths.index(scenes.STANDARD_INPUT) if scenes.STANDARD_INPUT in paths else len(paths)
+    return sum(call.name == name and call.file_class == file_class for call in run.calls[:lines])
 
 
 def every_call_is_seen(tally: Tally) -> None:
@@ -125,7 +148,7 @@ def truncations_are_synced(tally: Tally) -> None:
     count = 0
     for scene, run, disk in runs_of(tally):
         count += checks_truncations(tally, scene, run, disk, is_disturbed=False)
-    for scene, run, disk in runs_of(tally, [Fault("fsync", JOURNAL, first=AFTER_THE_START, step=3, times=0)]):
+    for scene, run, disk in runs_whose_syncs_fail(tally):
         count += checks_truncations(tally, scene, run, disk, is_disturbed=True)
     tally.holds(count > 0, "no run truncated a journal")
     tally.note(f"{count} truncations")

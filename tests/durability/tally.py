@@ -8,7 +8,7 @@ from typing import NamedTuple
 
 from durability.watching import Watch
 
-MEMORY = "/dev/shm" if os.path.isdir("/dev/shm") else None
+MEMORY = "/dev/shm" if os.access("/dev/shm", os.W_OK) else None
 # A check prints so many failures at most.
 MAX_PRINTED = 5
 

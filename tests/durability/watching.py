@@ -8,7 +8,7 @@ from typing import IO, NamedTuple, Optional
 
 HERE = os.path.dirname(os.path.abspath(__file__))
 # How long a run may take, in seconds, before it is taken for one that hangs.
-SECONDS = 60.0
+SECONDS = 240.0
 
 # The classes of files, as the library names them.
 JOURNAL, FOLDER, INPUT, OUTPUT, OTHER, ANY = "journal", "folder", "input", "output", "other", "any"
