@@ -42,6 +42,8 @@ class File:
         self.held = bytearray(content)
         self.durable = bytearray(content)
         self.waiting: list[Change] = []
+        # What readers were given before each truncation.
+        self.cut: list[bytes] = []
         # Whether the entry of its directory is durable.
         self.is_named = is_named
 
@@ -49,9 +51,12 @@ class File:
         copied = File(bytes(self.held), self.is_named)
         copied.durable = bytearray(self.durable)
         copied.waiting = list(self.waiting)
+        copied.cut = list(self.cut)
         return copied
 
     def change(self, change: Change) -> None:
+        if isinstance(change, Truncate):
+            self.cut.append(bytes(self.held))
         change.apply(self.held)
         self.waiting.append(change)
 
@@ -139,6 +144,11 @@ class Disk:
 
     def held(self) -> Image:
         return {name: bytes(file.held) for name, file in self.files.items()}
+
+    def written(self, name: str) -> list[list[bytes]]:
+        """The records that a journal has had: before each truncation, which a power failure may undo, and at last."""
+        file = self.files.get(name, File(b"", is_named=False))
+        return [content.split(b"\n")[1:-1] for content in (*file.cut, bytes(file.held))]
 
     def without_unsynced(self) -> Image:
         """What a power failure leaves if nothing reached the disk that wasn't synced."""

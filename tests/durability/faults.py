@@ -44,7 +44,8 @@ def with_faults(tally: Tally, scene: Scene, faults: Sequence[Fault], refused: It
     for forgets in (True, False):
         disk = Disk(scene.journals, forgets)
         disk.take_all(run.calls)
-        loads(tally, what, scene, run, held, disk.without_unsynced())
+        tally.expect(disk.held(), held, f"{what}: the journals by the calls that were seen")
+        loads(tally, what, scene, run, disk, disk.without_unsynced())
         has_just_what_was_answered(tally, what, scene, run, disk)
     return run
 
@@ -81,7 +82,8 @@ def stops(tally: Tally, scene: Scene, faults: Sequence[Fault], status: int, said
     )
     disk = Disk(scene.journals)
     disk.take_all(run.calls)
-    loads(tally, what, scene, run, held, disk.without_unsynced())
+    tally.expect(disk.held(), held, f"{what}: the journals by the calls that were seen")
+    loads(tally, what, scene, run, disk, disk.without_unsynced())
     return run
 
 
@@ -284,7 +286,7 @@ def a_reader_that_goes_away_ends_a_run(tally: Tally) -> None:
             tally.expect(len(run.answers), scenes.GROUP * (number - 1), f"{what}: its answers")
             disk = Disk(scene.journals)
             disk.take_all(run.calls)
-            loads(tally, what, scene, run, held, disk.without_unsynced())
+            loads(tally, what, scene, run, disk, disk.without_unsynced())
             tally.expect(disk.without_unsynced(), held, f"{what}: what is durable")
 
 

@@ -67,15 +67,15 @@ class Kills:
         self.kills += 1
         for image in disk.images(self.chance, self.depth.images):
             self.loads += 1
-            loads(self.tally, what, scene, run, held, image)
+            loads(self.tally, what, scene, run, disk, image)
 
     def note(self) -> None:
         self.tally.note(f"{self.kills} kills")
         self.tally.note(f"{self.loads} loads of what was left")
 
 
-def loads(tally: Tally, what: str, scene: Scene, run: Run, held: Image, image: Image) -> None:
-    """Loads what a power failure left, and checks it against what was written and answered."""
+def loads(tally: Tally, what: str, scene: Scene, run: Run, disk: Disk, image: Image) -> None:
+    """Loads what a power failure left of a disk, and checks it against what was written and answered."""
     answered = [(line, answer) for line, answer in zip(scene.lines, run.answers) if answer.split(" ")[0] in HAS_RECORD]
     asked = [(line, answer) for line, answer in answered if line.startswith("A ")]
     with new_folder() as folder:
@@ -89,7 +89,7 @@ def loads(tally: Tally, what: str, scene: Scene, run: Run, held: Image, image: I
         tally.holds(is_same, f"{what}: {line[:60]!r} was answered {first!r}, and is answered {answer!r} again")
     records = [records_of(after, journal_path("journal", shard)) for shard in range(scene.shards)]
     for shard, own in enumerate(records):
-        has_what_was_written(tally, f"{what}: shard {shard}", own, held, shard)
+        has_what_was_written(tally, f"{what}: shard {shard}", own, disk, shard)
     for line, answer in answered:
         shard, place = map(int, answer.split(" ")[1:3])
         is_kept = place < len(records[shard]) and scenes.fits(line, records[shard][place].decode("ascii"))
@@ -99,12 +99,17 @@ def loads(tally: Tally, what: str, scene: Scene, run: Run, held: Image, image: I
         tally.expect([len(own) for own in records], numbers, f"{what}: the records that a standby reported")
 
 
-def has_what_was_written(tally: Tally, what: str, own: list[bytes], held: Image, shard: int) -> None:
-    """Checks that a shard's records are a prefix of those written, and have all of its old journal's."""
-    old = held.get(old_journal_path("journal", shard), b"").split(b"\n")[:-1]
-    longest = max(records_of(held, journal_path("journal", shard)), old, key=len)
-    tally.holds(own == longest[: len(own)], f"{what} loads {len(own)} records that weren't written so")
+def has_what_was_written(tally: Tally, what: str, own: list[bytes], disk: Disk, shard: int) -> None:
+    """Checks that a shard's records are a prefix of some that its journal had, and have all of its old journal's."""
+    old = records_of_old(disk, shard)
+    written = [*disk.written(journal_path("journal", shard)), old]
+    is_written = any(own == records[: len(own)] for records in written)
+    tally.holds(is_written, f"{what} loads {len(own)} records that weren't written so")
     tally.holds(len(own) >= len(old), f"{what} has {len(own)} of {len(old)} records of its old journal")
+
+
+def records_of_old(disk: Disk, shard: int) -> list[bytes]:
+    return disk.held().get(old_journal_path("journal", shard), b"").split(b"\n")[:-1]
 
 
 def no_answer_is_lost_by_one_caller(tally: Tally) -> None:
