@@ -1,6 +1,8 @@
 """Which files a start takes for journals, which it leaves as they are, and how several threads load many of them."""
 import copy
+import fcntl
 import os
+import resource
 import shutil
 import stat
 import subprocess
@@ -21,6 +23,9 @@ from durability.tally import Check, Tally, check_of, new_folder
 from durability.watching import OTHER, Fault, Run, Watch
 
 NOBODY = 65_534
+# A stack that docs/TROUBLESHOOTING.md calls enough, and a hole that a start has to read through.
+STACK_BYTES = 1_024 * 1_024
+HOLE_BYTES = 256 * 1_024 * 1_024
 # More shards than callers: threads then load two or more each, and the last one fewer.
 SHARDS_AND_CALLERS = ((3, 2), (5, 2), (5, 4), (7, 3), (16, 3), (16, 5), (16, 12), (16, 15), (16, 16))
 
@@ -224,6 +229,74 @@ sys.exit(run_program({[tally.watch.program, *scene.words]!r}).status)"""
     tally.expect((again.status, len(again.answers)), (0, 60), "serve without the limit afterwards: status, answers")
 
 
+def a_lock_of_another_ends_a_start(tally: Tally) -> None:
+    """A start over a journal that another program has locked, also for reading, is status 5, and changes nothing."""
+    old, new = old_journal_path("journal", 1), journal_path("journal", 1)
+    for name, how in ((new, fcntl.LOCK_SH), (new, fcntl.LOCK_EX), (old, fcntl.LOCK_SH), (old, fcntl.LOCK_EX)):
+        what = f"{name}, locked for {'reading' if how == fcntl.LOCK_SH else 'writing'}"
+        with new_folder() as folder:
+            scenes.served("", 1, scenes.journals_of(2, 3), ()).prepare(folder)
+            before = state_of(folder)
+            with open(os.path.join(folder, name), "rb") as other:
+                fcntl.flock(other, how)
+                came = status_of_start(tally, folder)
+                tally.expect(came, (5, ["stop 5 1"]), f"{what}: the status and the last line")
+                tally.expect(state_of(folder), before, f"{what}: the files after the start")
+            tally.expect(status_of_start(tally, folder), (0, []), f"{what} no more: the status")
+
+
+def what_follows_the_last_newline_is_cut(tally: Tally) -> None:
+    """Bytes behind a journal's last newline are truncated, whatever and however many they are; all lines stay."""
+    text = scenes.text_of(scenes.status_records(1, 0, 40))
+    whole = text.removesuffix(b"\n")
+    last = whole.rindex(b"\n") + 1
+    tails = [(text, tail) for tail in (b"s", b"v2", b"d " * 262, b"x" * 65_536, b"\xff\x00\r" * 66_000)]
+    # (the last record, whose newline is a form feed)
+    tails.append((text[:last], whole[last:] + b"\x0c"))
+    for kept, tail in tails:
+        what = f"a journal with {len(tail)} bytes behind its last newline, {tail[:9]!r} .."
+        tally.expect(loaded_from(tally, kept + tail, 0), (0, kept), f"{what}: the status, and the journal")
+    hole = HOLE_BYTES // (8 if tally.is_short else 1)
+    what = f"a journal with a hole of {hole} bytes behind its last newline"
+    tally.expect(loaded_from(tally, text, hole), (0, text), f"{what}: the status, and the journal")
+    bad = (6, text + b"x" * 600 + b"\n")
+    tally.expect(loaded_from(tally, bad[1], 0), bad, "a journal with a long line that is no record: the same")
+
+
+def loaded_from(tally: Tally, text: bytes, hole: int) -> tuple[int, bytes]:
+    """The status of a start over a journal with this text and then a hole, and the journal afterwards."""
+    with new_folder() as folder:
+        scenes.served("", 1, {journal_path("journal", 0): text}, (), shards=1).prepare(folder)
+        path = os.path.join(folder, journal_path("journal", 0))
+        os.truncate(path, len(text) + hole)
+        status = status_of_start(tally, folder)[0]
+        with open(path, "rb") as journal:
+            return status, journal.read()
+
+
+def a_stack_of_a_megabyte_is_enough(tally: Tally) -> None:
+    """By a stack of 1,024 kB all commands over journals do what they do by any other: the same output and journals."""
+    export = ("export", "--config", scenes.CONFIG, "--journal", "journal")
+    for scene in (
+        scenes.served("serve, one caller", 1, scenes.journals_of(2, 5), scenes.mixed_lines(24)),
+        scenes.served("serve, four callers", 4, scenes.journals_of(5, 4), scenes.mixed_lines(24), shards=5),
+        scenes.standby(20, {}),
+        scenes.migration((2_400, 5)),
+        Scene("export", 2, export, (), scenes.journals_of(2, 2_400), {}),
+    ):
+        came = []
+        for limit in (None, limit_stack):
+            with new_folder() as folder:
+                scene.prepare(folder)
+                run = tally.watch.run_alone(folder, scene.words, scene.groups, limit)
+                came.append((run.status, len(run.answers), sorted(map(len, read_journals(folder).values()))))
+        tally.expect(came[1], came[0], f"{scene.name}: status, answers and bytes of the journals")
+
+
+def limit_stack() -> None:
+    resource.setrlimit(resource.RLIMIT_STACK, (STACK_BYTES, STACK_BYTES))
+
+
 def many_shards_are_loaded_by_few_callers(tally: Tally) -> None:
     """More shards than callers: each journal is loaded, a bad one is named, and the first of several."""
     count = 0
@@ -289,6 +362,9 @@ CHECKS: tuple[Check, ...] = tuple(
             an_old_journal_may_lose_what_was_copied,
             words_that_are_no_text_are_no_command,
             a_limit_of_file_size_is_a_full_disk,
+            a_lock_of_another_ends_a_start,
+            what_follows_the_last_newline_is_cut,
+            a_stack_of_a_megabyte_is_enough,
             many_shards_are_loaded_by_few_callers,
         ),
     )
