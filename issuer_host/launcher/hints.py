@@ -13,6 +13,9 @@ KNOWN = (*COMMANDS, "prove", "test", "help", "--help", "--version", "--never-bui
 # What a command that only reads does over a journal that it begins: mostly its name is wrong.
 OVER_NOTHING = {"show": "prints cards without records", "clear": "finds no decision", "export": "prints no line"}
 
+# Of a word that is neither a command nor an option so many characters are compared and told.
+SHOWN = 60
+
 
 def hint(words: Sequence[str]) -> str:
     """Says what words that can be no command are near to; nothing if there is nothing to say."""
@@ -29,8 +32,13 @@ def of_unknown(command: str) -> str:
     near = nearest(command, KNOWN)
     if near in OPTIONS:
         users = [row.name for row in COMMANDS.values() if OPTIONS[near] in row.options]
-        return f"there is no command `{command}`; the option `{near}` comes after {any_of(users)}"
-    return f"there is no command `{command}`{did_you_mean(near)}"
+        return f"there is no command `{shown(command)}`; the option `{near}` comes after {any_of(users)}"
+    return f"there is no command `{shown(command)}`{did_you_mean(near)}"
+
+
+def shown(word: str) -> str:
+    """Returns a word that nobody knows, as far as it is worth telling."""
+    return word if len(word) <= SHOWN else f"{word[:SHOWN]} .."
 
 
 def of_options(command: Command, words: Sequence[str]) -> str:
@@ -46,9 +54,9 @@ def of_options(command: Command, words: Sequence[str]) -> str:
         if not name.startswith("-"):
             return f"word {2 * number} is no option: after `{command.name}` come pairs of an option and its value"
         if option not in names:
-            return f"`{command.name}` has no option `{name}`{did_you_mean(nearest(name, names))}"
+            return f"`{command.name}` has no option `{shown(name)}`{did_you_mean(nearest(name, names))}"
         if given.count(option) > 1:
-            return f"`{option}` stands twice"
+            return f"`{shown(option)}` stands twice"
     return ""
 
 
@@ -88,7 +96,7 @@ def any_of(names: Iterable[str]) -> str:
 
 def nearest(word: str, known: Sequence[str]) -> Optional[str]:
     """Returns the known word that is near to this one, or None."""
-    word = word.lower()
+    word = word.lower()[:SHOWN]
     near = min(known, key=lambda name: distance(word, name))
     starts = [name for name in known if len(word) > 1 and name.startswith(word)]
     if distance(word, near) <= max(1, len(near.strip("-")) // 3):

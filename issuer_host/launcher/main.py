@@ -11,6 +11,7 @@ from issuer_host.launcher.running import open_descriptors
 from issuer_host.launcher.sources import TOP
 from issuer_host.launcher.toolchain import kit_of, toolchain
 from issuer_host.launcher.usage import usage
+from issuer_host.memory import keep_from_others
 from issuer_host.paths import HOME
 from issuer_host.proof import read_record
 from issuer_host.statuses import Status
@@ -33,7 +34,7 @@ def line_of_version() -> str:
 def answer(words: Sequence[str], is_output_open: bool) -> int:
     """Does what the words ask for, and returns the status."""
     never_builds = os.environ.get(NEVER_BUILD, "") not in ("", "0")
-    if words[:1] == ["--never-build"]:
+    while words[:1] == ["--never-build"]:
         never_builds = True
         words = words[1:]
     if not words or words in (["--help"], ["-h"], ["help"]):
@@ -103,6 +104,7 @@ def stop_without_sources(what: str) -> None:
 
 def main(words: Sequence[str]) -> int:
     """Does what the words ask for. Returns the status, also of an interrupted run or an output that failed."""
+    keep_from_others()
     try:
         status = answer(words, open_descriptors())
         if sys.stdout:

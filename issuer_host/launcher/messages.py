@@ -16,7 +16,12 @@ def complain(line: str) -> None:
 
 
 def tell(text: str) -> None:
-    complain(f"issuer: {text}")
+    complain(f"issuer: {printable(text)}")
+
+
+def printable(text: str) -> str:
+    """Returns a text that moves no cursor and changes no colour: words of whoever called may be in it."""
+    return "".join(one if one.isprintable() else ascii(one)[1:-1] for one in text)
 
 
 def stop(text: str) -> NoReturn:
