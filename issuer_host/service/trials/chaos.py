@@ -3,9 +3,18 @@
 usage: deploy/chaos [--short] [--requests N] [--seed S] [--program PATH] [--keep FOLDER] [--loud]
 
 It starts a private broker on the loopback, four partitions and two bridges for each, and asks N requests (20,000; in
-the short form 2,000), about a tenth of them again. In each round something ends at a random moment: a bridge, a host,
-both, the broker; a bridge is stopped without an end, which its watchdog notices; the journals' disk is full for a
-while. At the end:
+the short form 2,000), about a tenth of them again. The bridges are those of an installed copy, and are managed as the
+unit says. The second one of each partition finds the broker by a name with two addresses. In each round something
+happens at a random moment:
+
+- a bridge, a standby, a host, a host with its bridge or the broker is killed; a bridge is ended by SIGTERM
+- a bridge or a host hangs
+- the journals' disk is full for a while
+- a publisher reads no answers, or publishes what no decoder likes
+- a queue is deleted and declared again
+- another version of the package is put in place, file by file
+
+At the end:
 
 - each request was answered, and all its answers are the same reply
 - each request has exactly one record, at the index that its answers name, and no record is of another request
@@ -44,11 +53,9 @@ REQUESTS, SHORT_REQUESTS = 20_000, 2_000
 REQUESTS_OF_ROUND = 230
 # About so many requests are answered a second: an event happens within its round.
 RATE = 2500
-# How often each event comes, in a hundred.
-EVENTS = {"bridge": 24, "standby": 8, "host": 24, "both": 22, "term": 10, "disk": 4, "stop": 4, "broker": 4}
 SHORT_EVENTS = (
-    *("bridge", "host", "both", "broker", "stop", "disk", "term"),
-    *("standby", "host", "bridge", "both", "host", "bridge"),
+    *("bridge", "host", "hostile", "both", "broker", "stop", "disk", "deaf", "term"),
+    *("standby", "host", "queue", "bridge", "upgrade", "both", "hang", "bridge"),
 )
 PACKAGES = {"pika": "python3-pika", "cryptography": "python3-cryptography"}
 
@@ -100,19 +107,24 @@ def order_of(lines: Sequence[str], dice: random.Random) -> list[str]:
 
 
 def events_of(options: Options, dice: random.Random, is_disk: bool) -> list[str]:
-    """Returns what happens in each round."""
+    """Returns what happens in each round: in the long form each event once at least."""
+    from issuer_host.service.trials.events import EVENTS
+
     if options.short:
         found = list(SHORT_EVENTS)
     else:
-        weights = {event: weight for event, weight in EVENTS.items() if is_disk or event != "disk"}
-        rounds = max(options.requests // REQUESTS_OF_ROUND, 1)
-        found = dice.choices(list(weights), list(weights.values()), k=rounds)
+        rounds = max(options.requests // REQUESTS_OF_ROUND, len(EVENTS))
+        weights = [event.weight for event in EVENTS.values()]
+        found = [*EVENTS, *dice.choices(list(EVENTS), weights, k=rounds - len(EVENTS))]
+        dice.shuffle(found)
     return [event for event in found if is_disk or event != "disk"]
 
 
 def ask_in_rounds(farm: Farm, order: Sequence[str], events: Sequence[str], dice: random.Random) -> Asked:
     """Asks all lines, with an event in each round."""
-    from issuer_host.service.asking import Asker, Question
+    from issuer_host.service.asking import Question
+    from issuer_host.service.trials.events import happen
+    from issuer_host.service.trials.patient import PatientAsker
 
     answers: dict[str, list[str]] = collections.defaultdict(list)
     silences: dict[str, list[float]] = collections.defaultdict(list)
@@ -123,12 +135,12 @@ def ask_in_rounds(farm: Farm, order: Sequence[str], events: Sequence[str], dice:
         times.append(time.monotonic())
 
     size = -(-len(order) // len(events))
-    with Asker(PARTITIONS, farm.broker.url_file, seconds=ANSWER_SECONDS, on_answer=answered) as asker:
+    with PatientAsker(PARTITIONS, farm.broker.url_file, seconds=ANSWER_SECONDS, on_answer=answered) as asker:
         for number, event in enumerate(events):
             part = order[number * size : (number + 1) * size]
             times[:] = [time.monotonic()]
             wait = 0.0 if event == "disk" else dice.uniform(0.0, size / RATE)
-            happening = threading.Timer(wait, farm.happen, (event, dice))
+            happening = threading.Timer(wait, happen, (farm, event, dice))
             happening.start()
             if event == "disk":
                 # (it is full before the first line of the round)
@@ -196,6 +208,7 @@ def play(options: Options, room: str, tally: Tally) -> None:
             tally.check(
                 not bridge.is_down, f"a bridge of partition {bridge.partition} stayed down: {dict(bridge.ends)}"
             )
+        tally.check(not farm.faults, f"these didn't happen: {farm.faults}")
         report(farm, len(lines), len(order), asked, seconds)
     finally:
         clear(options, room, farm, disk)

@@ -9,11 +9,13 @@ import time
 from typing import Optional, Union
 
 from issuer_host.partitions import partition_configuration, partition_journal
-from issuer_host.paths import HOME
+from issuer_host.paths import HOME, PROGRAM
 from issuer_host.service import offline
 from issuer_host.service.trials.cards import whole_configuration
-from issuer_host.service.trials.managed import GO_ON, KILL, STOP, TERMINATE, ManagedBridge, signal_to
+from issuer_host.service.trials.installed import Installed
+from issuer_host.service.trials.managed import GO_ON, TERMINATE, ManagedBridge
 from issuer_host.service.trials.private_broker import PrivateBroker
+from issuer_host.service.trials.two_addresses import command_before, url_file_of, without_inet6
 
 PARTITIONS, SHARDS, CALLERS, CARDS = 4, 2, 2, 200
 BRIDGES = 2
@@ -32,7 +34,10 @@ def words_of_program(program: Optional[str]) -> list[str]:
 
 
 class Farm:
-    """The broker, the bridges and the partitions' journals, in one folder."""
+    """The broker, the bridges and the partitions' journals, in one folder.
+
+    The bridges are those of an installed copy. The second one of each partition finds the broker by its name.
+    """
 
     def __init__(self, room: str, program: Optional[str], disk: Optional[str], is_loud: bool = False) -> None:
         self.room = room
@@ -42,20 +47,29 @@ class Farm:
         self.lock = threading.Lock()
         self.is_full = threading.Event()
         self.is_ended = False
+        # What was to happen and didn't.
+        self.faults: list[str] = []
         self.configurations = os.path.join(room, "configurations")
         self.broker = PrivateBroker(os.path.join(room, "broker"))
         self.broker.start()
+        self.installed = Installed(room, program or PROGRAM)
         self.bridges: list[ManagedBridge] = []
 
     def begin(self) -> None:
         for partition in range(PARTITIONS):
             self.add_bridges(partition)
         self.broker.wait()
-        words = ["--partitions", str(PARTITIONS), "--broker-file", self.broker.url_file]
-        subprocess.run([command_of("queues"), *words], stdout=subprocess.DEVNULL, check=True)
+        self.declare()
         for bridge in self.bridges:
             bridge.start()
         threading.Thread(target=self.manage, daemon=True).start()
+
+    def declare(self) -> None:
+        """Declares all queues."""
+        words = ["--partitions", str(PARTITIONS), "--broker-file", self.broker.url_file]
+        done = subprocess.run([self.installed.command("queues"), *words], stdout=subprocess.DEVNULL, check=False)
+        if done.returncode:
+            raise OSError("the queues can't be declared")
 
     def add_bridges(self, partition: int) -> None:
         """Creates a partition's journals, and makes its bridges' commands."""
@@ -63,10 +77,16 @@ class Farm:
         journal = self.journal(partition)
         os.makedirs(os.path.dirname(journal), exist_ok=True)
         offline.show(config, journal, self.program, begins=True)
-        command = [command_of("bridge"), "--partition", str(partition), "--config", config, "--journal", journal]
-        command += ["--callers", str(CALLERS), "--broker-file", self.broker.url_file]
-        command += words_of_program(self.program)
-        self.bridges += [ManagedBridge(self.room, partition, number, command) for number in range(BRIDGES)]
+        command = [self.installed.command("bridge"), "--partition", str(partition), "--config", config]
+        command += ["--journal", journal, "--callers", str(CALLERS), "--broker-file"]
+        by_name = command_before(self.room)
+        for number in range(BRIDGES):
+            if number and by_name:
+                words = [*by_name, *command, url_file_of(self.room, self.broker.port)]
+                self.bridges.append(ManagedBridge(self.room, partition, number, words, without_inet6))
+            else:
+                words = [*command, self.broker.url_file]
+                self.bridges.append(ManagedBridge(self.room, partition, number, words))
 
     def journal(self, partition: int) -> str:
         return partition_journal(self.room, partition)
@@ -83,27 +103,6 @@ class Farm:
         with self.lock:
             found = [bridge for bridge in self.bridges if (bridge.host() is not None) == is_active]
             return dice.choice(found or self.bridges)
-
-    def happen(self, event: str, dice: random.Random) -> None:
-        """Does something bad. What it is done to may end by itself at the same time."""
-        if self.is_loud:
-            print(f"{time.strftime('%H:%M:%S')} {event}", flush=True)
-        if event == "broker":
-            self.broker.kill()
-            time.sleep(dice.uniform(0.0, 0.5))
-            self.broker.start()
-        elif event == "disk":
-            self.fill_disk()
-        else:
-            self.end_one(event, self.pick(dice, event != "standby"))
-
-    def end_one(self, event: str, bridge: ManagedBridge) -> None:
-        """Ends a bridge, its host or both."""
-        host = bridge.host()
-        if event in ("host", "both") and host:
-            signal_to(host, KILL)
-        if event != "host":
-            bridge.signal({"term": TERMINATE, "stop": STOP}.get(event, KILL))
 
     def fill_disk(self) -> None:
         """Fills the first partition's disk to its last byte, for a while."""

@@ -1,5 +1,6 @@
 """A bridge as a service manager runs it by the unit, and what can happen to its process."""
 import collections
+import contextlib
 import os
 import re
 import signal
@@ -38,6 +39,7 @@ class ManagedBridge:
         child: Optional[Callable[[], None]] = None,
     ) -> None:
         self.partition = partition
+        self.number = number
         self.command = command
         # Done in the process before the bridge begins.
         self.child = child
@@ -58,7 +60,12 @@ class ManagedBridge:
         environment = dict(os.environ) | {"NOTIFY_SOCKET": self.path}
         with open(self.log, "ab") as log:
             self.process = subprocess.Popen(
-                self.command, stdin=subprocess.DEVNULL, stderr=log, env=environment, preexec_fn=self.child
+                self.command,
+                stdin=subprocess.DEVNULL,
+                stderr=log,
+                env=environment,
+                preexec_fn=self.child,
+                start_new_session=True,
             )
         # (the watchdog begins with the first notice)
         self.heard = time.monotonic() + START_SECONDS - WATCHDOG_SECONDS
@@ -79,6 +86,7 @@ class ManagedBridge:
         self.listen(now)
         status = self.process.poll()
         if status is not None and not self.died:
+            self.end_group()
             self.died = now
             self.ends[status] += 1
             self.is_down = status in self.prevented
@@ -87,6 +95,12 @@ class ManagedBridge:
             self.process.kill()
         if self.died and not self.is_down and now - self.died > RESTART_SECONDS:
             self.start()
+
+    def end_group(self) -> None:
+        """Kills what a bridge that ended left behind (KillMode=mixed of the unit)."""
+        if self.process:
+            with contextlib.suppress(ProcessLookupError):
+                os.killpg(self.process.pid, KILL)
 
     def signal(self, number: int) -> None:
         if self.process:
@@ -110,6 +124,7 @@ class ManagedBridge:
             except subprocess.TimeoutExpired:
                 self.process.kill()
                 self.process.wait()
+            self.end_group()
         self.socket.close()
 
 

@@ -1,0 +1,10 @@
+"""A publisher that asks on while its partition's queue is gone."""
+from issuer_host.service.asking import Asker, Question
+from issuer_host.service.link import Confirm
+
+
+class PatientAsker(Asker):
+    """An Asker to whom a queue that doesn't exist is as one that is full: somebody declares it again."""
+
+    def confirmed(self, question: Question, how: Confirm) -> None:
+        super().confirmed(question, Confirm.NACKED if how is Confirm.RETURNED else how)
