@@ -12,6 +12,7 @@ from collections.abc import Iterable, Sequence
 
 from issuer_host.journals import MAX_RECORD_LINE, VERSION_LINE
 from issuer_host.service.refusal import Refusal
+from issuer_host.service.whole_writes import write_whole
 
 ENDING = ".seals"
 DIGITS = 32
@@ -58,7 +59,7 @@ class Seals:
         """Appends seals durably, or leaves what is there."""
         text = b"".join(seal + b"\n" for seal in seals)
         try:
-            os.pwrite(self.file, text, self.count * LINE)
+            write_whole(self.file, text, self.count * LINE)
             os.fsync(self.file)
         except OSError:
             os.ftruncate(self.file, self.count * LINE)
