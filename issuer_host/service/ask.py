@@ -6,17 +6,21 @@ usage: ask --partitions P [--broker-file FILE] [--window N] [--seconds S] < LINE
 --window      lines in flight at a time (64)
 --seconds     how long to wait for an answer (60)
 
-A line is published to the partition of its card until it is answered. Lines of the forms Q and S are refused: a queue
-may repeat them; use deploy/order. The status is 0 if each line was answered, and 1 otherwise; lines without an answer
-may be recorded, and can be asked again.
+A line is published to the partition of its card until it is answered. Three neighbouring lines are one message, and
+have one answer: `S PAN PSN DIGIT`, a request of that card, and `S PAN PSN DIGIT` again. They are a request that its
+account declines. The card has the first status for that request alone, and then the one that it had before, whatever
+the third line's digit. Other lines of the forms Q and S are refused: a queue may repeat them; use deploy/order.
+
+The status is 0 if each line was answered, and 1 otherwise; lines without an answer may be recorded, and can be asked
+again.
 """
 import argparse
 import sys
 from collections.abc import Sequence
 from typing import NamedTuple, Optional
 
-from issuer_host.request_lines import DECIDE, pan_of_line
 from issuer_host.service.asking import Asker, Question, Unanswered
+from issuer_host.service.messages import messages_of
 from issuer_host.service.refusal import Refusal, tell
 
 
@@ -29,17 +33,6 @@ class Options(NamedTuple):
     seconds: float
 
 
-def check(lines: Sequence[str]) -> None:
-    """Refuses what can't go through a queue, before anything is sent."""
-    for number, line in enumerate(lines, 1):
-        if not line.startswith(f"{DECIDE} "):
-            raise Refusal(f"line {number} isn't of the form A; deploy/order puts Q and S lines")
-        try:
-            pan_of_line(line)
-        except ValueError as fault:
-            raise Refusal(f"line {number}: {fault}") from fault
-
-
 def options_of(words: Sequence[str]) -> Options:
     parser = argparse.ArgumentParser(usage=__doc__)
     parser.add_argument("--partitions", type=int, required=True)
@@ -49,8 +42,8 @@ def options_of(words: Sequence[str]) -> Options:
     return Options(**vars(parser.parse_args(words)))
 
 
-def ask(options: Options, lines: Sequence[str]) -> None:
-    """Asks all lines, and prints the answers as far as there is one for each line before."""
+def ask(options: Options, messages: Sequence[str]) -> None:
+    """Asks all messages, and prints the answers as far as there is one for each before."""
     answers: dict[int, str] = {}
     printed = 0
 
@@ -59,20 +52,19 @@ def ask(options: Options, lines: Sequence[str]) -> None:
 
     try:
         with Asker(options.partitions, options.broker_file, options.window, options.seconds, answered) as asker:
-            for _ in asker.ask_all(lines):
+            for _ in asker.ask_all(messages):
                 while printed in answers:
                     print(answers.pop(printed), flush=True)
                     printed += 1
     except Unanswered as fault:
-        raise Refusal(f"{len(lines) - printed} of {len(lines)} lines are unprinted: {fault}") from fault
+        raise Refusal(f"{len(messages) - printed} of {len(messages)} answers are unprinted: {fault}") from fault
 
 
 def main(words: Sequence[str]) -> int:
     options = options_of(words)
     lines = sys.stdin.read().splitlines()
     try:
-        check(lines)
-        ask(options, lines)
+        ask(options, messages_of(lines))
     except Refusal as refusal:
         tell("ask", str(refusal))
         return 1

@@ -2,8 +2,13 @@
 
     with Asker(partitions=4) as asker:
         answer = asker.ask("A 5A08..")
+        answer = asker.decline("A 5A08..", 1)
         for line, answer in asker.ask_all(lines):
             ..
+
+`decline` is for a request that its account declines: the card's status is another one for this request alone, one whose
+row of the table declines. For `ask_all` such a "line" is `declines.body_of(request, status)`. Its answer is that of the
+request, with the issuer's cryptogram.
 
 Each line gets a correlation id. A line that isn't answered in time, or whose connection was lost, is published again
 with the same id: the host has one record for it and answers `kept`. So is one whose answer says that nothing was
@@ -23,6 +28,7 @@ from issuer_host.masks import masked
 from issuer_host.partitions import partition_of
 from issuer_host.request_lines import pan_of_line
 from issuer_host.service import broker
+from issuer_host.service.declines import body_of
 from issuer_host.service.link import Confirm, Link
 from issuer_host.service.loops import Channel, Delivery, Properties, Step, new_loop
 
@@ -119,6 +125,10 @@ class Asker:
 
     def ask(self, line: str) -> str:
         return next(self.ask_all([line]))[1]
+
+    def decline(self, request: str, status: int) -> str:
+        """Has a request declined by a status, and returns its answer."""
+        return self.ask(body_of(request, status))
 
     def ask_all(self, lines: Iterable[str]) -> Iterator[tuple[str, str]]:
         """The lines with their answers, in the order in which answers come."""

@@ -1,20 +1,23 @@
 """Takes requests from a partition's queue, puts them to the partition's host, and sends the answers back.
 
 usage: bridge --partition N --config FILE --journal NAME [--callers N] [--window N] [--broker-file FILE]
-              [--figures PORT] [--program PATH]
+              [--orders SOCKET] [--figures PORT] [--program PATH]
 
 Run two for each partition: the broker delivers to one of them, and to the other as soon as the first is gone. The host
-is started by issuer-run at the first delivery. It ends if the connection is lost or this process ends, so that its
-lock on the journals goes to whoever is active next.
+is started by issuer-run. It ends if the connection is lost or this process ends, so that its lock on the journals goes
+to whoever is active next. The service manager is told that the bridge is ready when the host has answered a first line,
+or when another bridge serves the partition. That host ends again unless the broker delivers to this bridge.
 
 A request is acknowledged when the broker has confirmed its answer. If host, bridge or broker ends before, it is put
 again, and its answer is `kept`. Answers `refused 12` and `refused 15` record nothing: their lines are held for a moment
 and put again, and after two seconds their publishers get these answers. An answer that its reply queue refuses is
-dropped: it is recorded. A message that is no line of the form A, that has no reply queue, or whose deliveries end this
-process again and again goes to the dead letters.
+dropped: it is recorded. A message that is neither a line of the form A nor an account's decline (three lines, `S`, `A`
+and `S` of one card), that has no reply queue, or whose deliveries end this process again and again goes to the dead
+letters.
 
 --window       unacknowledged requests at a time (64)
 --broker-file  a file with the broker's URL; the broker of this machine if it is left out
+--orders       the path of a socket at which it takes orders (deploy/order --socket); none if it is left out
 --figures      the port of Prometheus' figures on the loopback, to which the partition is added; none if it is 0 (0)
 
 It ends with 0 at SIGTERM, and with the host's status if a new start would end in the same way: 2, 6, 70 and 78. With
@@ -26,20 +29,19 @@ import signal
 import sys
 import time
 from collections.abc import Sequence
-from typing import NamedTuple, NoReturn, Optional
+from typing import Any, NamedTuple, NoReturn, Optional
 
 from issuer_host.paths import HOME
-from issuer_host.request_lines import DECIDE
 from issuer_host.service import broker
 from issuer_host.service.deaf_queues import DeafQueues
 from issuer_host.service.figures import Figures
 from issuer_host.service.flight import Entry, Flight
-from issuer_host.service.holding import Holding
-from issuer_host.service.hosting import Hosting
 from issuer_host.service.link import Confirm, Link
-from issuer_host.service.loops import Channel, Delivery, Properties, new_loop
+from issuer_host.service.loops import Callback, Channel, Delivery, Properties, Step, new_loop
 from issuer_host.service.notices import notify
+from issuer_host.service.readiness import Readiness
 from issuer_host.service.refusal import tell
+from issuer_host.service.serving import Outside, Serving
 from issuer_host.statuses import Status
 
 NAME = "bridge"
@@ -49,7 +51,6 @@ TRIES = 3
 AGAIN_SECONDS = 0.2
 TICK_SECONDS = 1.0
 STOP_SECONDS = 5.0
-MAX_BODY = 4095
 
 
 class Options(NamedTuple):
@@ -61,6 +62,7 @@ class Options(NamedTuple):
     callers: int
     window: int
     broker_file: Optional[str]
+    orders: Optional[str]
     figures: int
     program: Optional[str]
 
@@ -73,6 +75,7 @@ def options_of(words: Sequence[str]) -> Options:
     parser.add_argument("--callers", type=int, default=1)
     parser.add_argument("--window", type=int, default=64)
     parser.add_argument("--broker-file")
+    parser.add_argument("--orders")
     parser.add_argument("--figures", type=int, default=0)
     parser.add_argument("--program")
     parser.error = refuse_words  # type: ignore[assignment]
@@ -92,12 +95,6 @@ def command_of(options: Options) -> list[str]:
     return [*begin, "serve", *files, "--callers", str(options.callers)]
 
 
-def is_request(properties: Properties, body: bytes) -> bool:
-    """Whether a message is a line of the form A, and names a reply queue."""
-    is_line = body.startswith(DECIDE.encode() + b" ") and b"\n" not in body
-    return is_line and len(body) <= MAX_BODY and bool(properties.reply_to)
-
-
 class Bridge:
     """Between the broker's queue and the partition's host."""
 
@@ -107,26 +104,17 @@ class Bridge:
         self.loop = new_loop()
         port = options.figures and options.figures + options.partition
         self.figures = Figures(options.partition, port, options.journal)
-        self.link = Link(
-            self.loop,
-            broker.parameters_of(options.broker_file),
-            lambda channel: broker.find_partition(channel, options.partition),
-            self.ready,
-            self.lost,
-        )
+        parameters = broker.parameters_of(options.broker_file)
+        self.link = Link(self.loop, parameters, self.steps_of, self.ready, self.lost)
         self.flight = Flight()
-        self.holding = Holding()
         self.deaf = DeafQueues()
-        self.hosting = Hosting(
-            self.loop,
-            command_of(options),
-            options.journal,
-            self.figures,
-            self.answered,
-            self.end_if_idle,
-            self.give_up,
-        )
+        outside = Outside(self.send, self.is_current, self.host_is_ready, self.end_if_idle, self.give_up)
+        command = command_of(options)
+        self.serving = Serving(self.loop, command, options.journal, self.figures, options.orders or "", outside)
+        self.readiness = Readiness(NAME)
         self.is_stopping = False
+        # Whether another bridge consumed before this one.
+        self.is_second = False
         self.consumer = ""
         self.told = ""
 
@@ -134,17 +122,34 @@ class Bridge:
         for number in (signal.SIGTERM, signal.SIGINT):
             signal.signal(number, lambda *_: self.loop.add_callback_threadsafe(self.stop))
         self.link.open()
-        notify(NAME, "READY=1\nSTATUS=waiting for the broker")
+        self.serving.begin()
         self.tick()
         self.loop.start()
+        self.serving.stop()
         return self.status
 
     # The broker's side
+
+    def steps_of(self, channel: Channel) -> list[Step]:
+        """A step that makes sure that the queue was declared, and asks whether it has a consumer."""
+
+        def find(then: Callback) -> None:
+            def found(frame: Any) -> None:
+                self.is_second = frame.method.consumer_count > 0
+                then(frame)
+
+            channel.queue_declare(broker.queue_of(self.options.partition), passive=True, callback=found)
+
+        return [find]
 
     def ready(self, channel: Channel) -> None:
         channel.basic_qos(prefetch_count=self.options.window)
         self.consumer = channel.basic_consume(broker.queue_of(self.options.partition), self.take)
         tell(NAME, "connected")
+        if self.is_second:
+            self.readiness.tell()
+        elif not self.readiness.is_told:
+            self.serving.hosting.want()
 
     def lost(self, reason: Exception) -> None:
         """All that isn't acknowledged is delivered again, here or elsewhere. The host ends, and answers nobody."""
@@ -155,16 +160,14 @@ class Bridge:
         self.consumer = ""
         self.told = str(reason)
         self.flight.clear()
-        self.hosting.abandon()
+        self.serving.abandon()
 
     def take(self, _: Channel, delivery: Delivery, properties: Properties, body: bytes) -> None:
         entry = Entry(delivery, properties, body)
         self.flight.add(entry)
-        if is_request(properties, body):
-            self.hosting.add(entry)
-            return
-        self.figures.bodies.inc()
-        self.settle(entry, False)
+        if not properties.reply_to or not self.serving.take(entry):
+            self.figures.bodies.inc()
+            self.settle(entry, False)
 
     def settle(self, entry: Entry, is_acknowledged: bool) -> None:
         if self.link.channel:
@@ -177,25 +180,14 @@ class Bridge:
 
     # Answers
 
-    def answered(self, entry: Entry, text: str) -> None:
-        """Takes the host's answer: it is sent, or its line is held for a moment and put again."""
-        seconds = self.holding.seconds_of(entry, text)
-        if seconds is None:
-            self.send(entry, text)
-            return
-        self.figures.answered(text, None)
-        self.loop.call_later(seconds, lambda: self.put_again(entry))
-
-    def put_again(self, entry: Entry) -> None:
-        if self.is_current(entry):
-            self.hosting.add(entry)
-
     def send(self, entry: Entry, text: str, tries: int = TRIES) -> None:
         """Sends an answer. One that nobody takes is dropped: it is recorded, and asked again it is `kept`."""
+        if not self.is_current(entry):
+            return
 
         def confirmed(how: Confirm) -> None:
             if how is Confirm.NACKED and tries > 1 and not self.deaf.has(entry.reply_to):
-                self.loop.call_later(AGAIN_SECONDS, lambda: self.send_again(entry, text, tries - 1))
+                self.loop.call_later(AGAIN_SECONDS, lambda: self.send(entry, text, tries - 1))
                 return
             if how is Confirm.NACKED:
                 self.drop(entry)
@@ -213,20 +205,18 @@ class Bridge:
         self.deaf.add(entry.reply_to)
         self.figures.dropped.inc()
 
-    def send_again(self, entry: Entry, text: str, tries: int) -> None:
-        if self.is_current(entry):
-            self.send(entry, text, tries)
-
     # Time, and the end
+
+    def host_is_ready(self) -> None:
+        self.readiness.tell()
 
     def tick(self) -> None:
         now = time.monotonic()
-        state = "the host runs" if self.hosting.host else "standby"
-        notify(NAME, f"WATCHDOG=1\nSTATUS={len(self.flight)} in flight, {state}")
+        state = "the host runs" if self.serving.hosting.host else "standby"
+        self.readiness.look(f"{len(self.flight)} in flight, {state}")
         self.figures.in_flight.set(len(self.flight))
         self.figures.oldest.set(self.flight.age(now))
-        self.figures.look_at_disk()
-        self.hosting.look(now)
+        self.serving.look()
         self.loop.call_later(TICK_SECONDS, self.tick)
 
     def give_up(self, status: int) -> None:
@@ -242,12 +232,12 @@ class Bridge:
         notify(NAME, "STOPPING=1")
         if self.link.channel and self.consumer:
             self.link.channel.basic_cancel(self.consumer)
-        self.hosting.stop()
+        self.serving.stop()
         self.loop.call_later(STOP_SECONDS, self.loop.stop)
         self.end_if_idle()
 
     def end_if_idle(self) -> None:
-        if self.is_stopping and self.hosting.host is None and not self.link.unconfirmed:
+        if self.is_stopping and self.serving.has_ended() and not self.link.unconfirmed:
             self.link.close(self.loop.stop)
 
 

@@ -17,6 +17,10 @@ KINDS = {
     "in_flight": ("Gauge", "issuer_lines_in_flight", "Requests delivered and not acknowledged"),
     "oldest": ("Gauge", "issuer_oldest_line_seconds", "Age of the oldest request in flight"),
     "starts": ("Counter", "issuer_host_starts", "Starts of the host"),
+    "start_seconds": ("Gauge", "issuer_host_start_seconds", "From the host's last start to its first answer"),
+    "began": ("Gauge", "issuer_host_ready_time_seconds", "When the host gave its first answer, in seconds of Unix"),
+    "declines": ("Counter", "issuer_account_declines", "Requests that came with an account's decline"),
+    "restoring": ("Gauge", "issuer_cards_restoring", "Cards that wait for the status of before an account's decline"),
     "losses": ("Counter", "issuer_connection_losses", "Losses of the broker's connection"),
     "bodies": ("Counter", "issuer_bodies_refused", "Messages that are no request line, sent to the dead letters"),
     "returned": ("Counter", "issuer_answers_returned", "Answers whose reply queue was gone"),
@@ -28,6 +32,7 @@ KINDS = {
 # These have a label each beside the partition.
 ANSWERS = ("issuer_answers", "Answers by kind; a refusal has its number", ("partition", "kind", "refusal"))
 ENDS = ("issuer_host_ends", "Ends of the host by status; a signal is negative", ("partition", "status"))
+ORDERS = ("issuer_orders", "Lines of orders by what became of them", ("partition", "kind"))
 
 
 class Nothing:
@@ -44,6 +49,7 @@ class Figures:
         self.figures: dict[str, Any] = {}
         self.answers_by: Any = Nothing()
         self.ends_by: Any = Nothing()
+        self.orders_by: Any = Nothing()
         if not port:
             return
         try:
@@ -63,6 +69,7 @@ class Figures:
 
         self.answers_by = prometheus_client.Counter(*ANSWERS)
         self.ends_by = prometheus_client.Counter(*ENDS)
+        self.orders_by = prometheus_client.Counter(*ORDERS)
         # (a rate sees no first event of a counter that begins with it)
         for kind in DECISIONS:
             self.answers_by.labels(self.partition, kind, "").inc(0)
@@ -79,6 +86,14 @@ class Figures:
         self.answers_by.labels(self.partition, kind, refusal).inc()
         if seconds is not None:
             self.seconds.observe(seconds)
+
+    def loaded(self, seconds: float) -> None:
+        """The host gave its first answer after so long."""
+        self.start_seconds.set(seconds)
+        self.began.set_to_current_time()
+
+    def ordered(self, kind: str) -> None:
+        self.orders_by.labels(self.partition, kind).inc()
 
     def ended(self, status: int) -> None:
         self.ends_by.labels(self.partition, str(status)).inc()

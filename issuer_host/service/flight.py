@@ -1,9 +1,20 @@
 """The requests that the broker delivered and that aren't acknowledged, in the order of delivery."""
 import collections
 import time
+from collections.abc import Callable
 from typing import NamedTuple, Optional
 
 from issuer_host.service.loops import Channel, Delivery, Properties
+
+
+class Line:
+    """A line that no message has: what is called with its answer. It isn't put to another host."""
+
+    __slots__ = ("line", "on_answer")
+
+    def __init__(self, line: bytes, on_answer: Callable[[str], object]) -> None:
+        self.line = line
+        self.on_answer = on_answer
 
 
 class Entry:

@@ -1,13 +1,18 @@
-"""The host that a bridge runs: the lines that it has yet to get, those that it has, its starts, silences and ends."""
+"""The host that a bridge runs: the lines that it has yet to get, those that it has, its starts, silences and ends.
+
+A host gets a line of no form first. Its answer says that the journals are loaded; until then nothing else is put.
+"""
 import collections
+import contextlib
 import os
 import time
 from collections.abc import Callable, Sequence
-from typing import Optional
+from typing import NamedTuple, Optional, Union
 
 from issuer_host.journals import journals_of
+from issuer_host.service.card_records import CardRecords
 from issuer_host.service.figures import Figures
-from issuer_host.service.flight import Entry
+from issuer_host.service.flight import Entry, Line
 from issuer_host.service.host import Host
 from issuer_host.service.loops import Loop
 from issuer_host.service.open_journals import Look, OpenJournals
@@ -25,34 +30,50 @@ FAILED_LOOKS = 5
 # A host that can't start is tried again after twice as long each time.
 FIRST_DELAY = 0.02
 LAST_DELAY = 2.0
+# The line that a host gets first: it has no form, and leaves no record. Its answer comes once the journals are loaded.
+PROBE, PROBE_ANSWER = b"x", "refused 1 1"
+# A look whether a host has loaded what was read of its journals meanwhile.
+READ_SECONDS = 0.02
 
-OnAnswer = Callable[[Entry, str], object]
+
+class Calls(NamedTuple):
+    """What is called as a host goes on."""
+
+    # A request's answer, if somebody still waits for it.
+    on_answer: Callable[[Entry, str], object]
+    # Whether a request may be put now. If not, whoever says so adds it again.
+    may_pass: Callable[[Entry], bool]
+    # The journals are loaded, and nothing was put yet.
+    on_loaded: Callable[[], object]
+    # What the journals said of commands and statuses then was read.
+    on_ready: Callable[[], object]
+    # The host ended with a status.
+    on_end: Callable[[int], object]
+    # It ended with one with which a new start would end too.
+    give_up: Callable[[int], object]
 
 
 class Hosting:
-    """A partition's host, one run after another. `on_answer` gets each answer that somebody still waits for."""
+    """A partition's host, one run after another."""
 
-    def __init__(
-        self,
-        loop: Loop,
-        command: Sequence[str],
-        journal: str,
-        figures: Figures,
-        on_answer: OnAnswer,
-        on_end: Callable[[], object],
-        give_up: Callable[[int], object],
-    ) -> None:
+    def __init__(self, loop: Loop, command: Sequence[str], journal: str, figures: Figures, calls: Calls) -> None:
         self.loop = loop
         self.command = command
         self.journal = journal
         self.figures = figures
-        self.on_answer = on_answer
-        self.on_end = on_end
-        self.give_up = give_up
-        # The requests that a host has yet to get, and those that the host has, in its order; None if nobody waits.
+        self.calls = calls
+        # The requests that a host has yet to get, and the lines that the host has, in its order; None if nobody waits.
         self.waiting: collections.deque[Entry] = collections.deque()
-        self.put: collections.deque[Optional[Entry]] = collections.deque()
+        self.put: collections.deque[Optional[Union[Entry, Line]]] = collections.deque()
         self.host: Optional[Host] = None
+        # Whether a host is needed though no request waits, and whether a start of one is put off.
+        self.is_wanted = False
+        self.is_delayed = False
+        self.is_loaded = False
+        self.began = 0.0
+        # What the journals said of commands and statuses when they were loaded, and whether all of that was read.
+        self.records = CardRecords(journal)
+        self.are_records_read = False
         # None before the host's first answer.
         self.journals: Optional[OpenJournals] = None
         self.sealing = Sealing(journal)
@@ -68,8 +89,34 @@ class Hosting:
         self.waiting.append(entry)
         self.put_waiting()
 
+    def want(self) -> None:
+        """Starts a host if there is none."""
+        self.is_wanted = True
+        if not self.is_delayed:
+            self.put_waiting()
+
+    def put_now(self, line: Line) -> None:
+        """Puts a line that isn't put again if this host ends."""
+        assert self.host is not None
+        self.put.append(line)
+        self.host.put(line.line)
+        self.host.flush()
+
+    def is_ready(self) -> bool:
+        """Whether a host takes lines, and what its journals said was read."""
+        return self.host is not None and self.host.is_open and self.are_records_read and not self.host.is_full()
+
+    def is_idle(self) -> bool:
+        """Whether a host has loaded its journals and has nothing to do."""
+        return self.host is not None and self.is_loaded and not self.put and not self.waiting
+
+    def entries(self) -> list[Entry]:
+        """Returns the requests that the host has or gets next."""
+        return [entry for entry in (*self.put, *self.waiting) if isinstance(entry, Entry)]
+
     def abandon(self) -> None:
         """Lets the host end, and answers nobody."""
+        self.is_wanted = False
         self.waiting.clear()
         self.put = collections.deque(None for _ in self.put)
         self.close()
@@ -85,18 +132,19 @@ class Hosting:
             self.closed = time.monotonic()
 
     def put_waiting(self) -> None:
-        if not self.waiting or self.is_stopping:
+        if self.is_stopping or not (self.waiting or self.is_wanted):
             return
         if self.host is None:
             self.start()
-        elif self.host.is_open:
+        elif self.host.is_open and self.is_loaded:
             self.put_to(self.host)
 
     def put_to(self, host: Host) -> None:
         while self.waiting and not host.is_full():
             entry = self.waiting.popleft()
-            self.put.append(entry)
-            host.put(entry.line)
+            if self.calls.may_pass(entry):
+                self.put.append(entry)
+                host.put(entry.line)
         host.flush()
         if host.is_full():
             self.close()
@@ -112,10 +160,45 @@ class Hosting:
         self.sealing = Sealing(self.journal)
         self.closed = None
         self.load_seconds = LOAD_SECONDS + bytes_of(self.journal) / LOAD_BYTES
-        self.heard = time.monotonic()
+        self.began = self.heard = time.monotonic()
         self.figures.starts.inc()
         self.figures.active.set(1)
+        self.is_loaded = False
+        self.are_records_read = False
+        self.records = CardRecords(self.journal)
+        self.read_on(self.records)
+        self.put_now(Line(PROBE, self.loaded))
+
+    def loaded(self, text: str) -> None:
+        """The first answer came."""
+        if text != PROBE_ANSWER and self.host:
+            self.kill(self.host, f"the host answers `{text}` to a line without a form")
+            return
+        self.is_wanted = False
+        self.is_loaded = True
+        self.figures.loaded(time.monotonic() - self.began)
+        with contextlib.suppress(OSError):
+            # (reading on says why)
+            self.records.mark()
+        self.calls.on_loaded()
         self.put_waiting()
+
+    def read_on(self, records: CardRecords) -> None:
+        """Reads a piece of what the journals say, and has the next one read when the loop comes to it."""
+        if records is not self.records or self.host is None:
+            records.close()
+            return
+        try:
+            is_read, seconds = records.read_on(), 0.0
+        except (OSError, ValueError) as fault:
+            tell("bridge", f"the journals can't be read for their commands: {fault}")
+            is_read, seconds = False, LAST_DELAY
+        if is_read and self.is_loaded:
+            records.close()
+            self.are_records_read = True
+            self.calls.on_ready()
+            return
+        self.loop.call_later(max(seconds, READ_SECONDS * is_read), lambda: self.read_on(records))
 
     def answered(self, text: str) -> None:
         self.heard = time.monotonic()
@@ -124,12 +207,15 @@ class Hosting:
             self.journals = open_journals(self.journal)
         self.sealing.answer(text)
         entry = self.put.popleft()
-        if entry is not None:
-            self.on_answer(entry, text)
+        if isinstance(entry, Entry):
+            self.calls.on_answer(entry, text)
+        elif entry is not None:
+            entry.on_answer(text)
 
     def ended(self, status: int, stop_line: str) -> None:
         """What the host didn't answer is put to the next one first, in its order."""
         self.host = None
+        self.are_records_read = False
         self.sealing.look()
         self.sealing.end()
         self.figures.ended(status)
@@ -137,22 +223,24 @@ class Hosting:
         if status:
             said = stop_line or "without a last line"
             tell("bridge", f"the host ended with {status}, {said}: {meaning_of(status)}")
-        self.waiting.extendleft(reversed([entry for entry in self.put if entry is not None]))
+        self.waiting.extendleft(reversed([entry for entry in self.put if isinstance(entry, Entry)]))
         self.put.clear()
         if status in NOT_AGAIN:
-            self.give_up(status)
+            self.calls.give_up(status)
         elif status in (Status.OK, Status.TOO_LONG):
             self.put_waiting()
         else:
             self.start_later()
-        self.on_end()
+        self.calls.on_end(status)
 
     def start_later(self) -> None:
         """Tries again, after twice as long each time."""
         self.delay = min(max(2 * self.delay, FIRST_DELAY), LAST_DELAY)
+        self.is_delayed = True
         self.loop.call_later(self.delay, self.start_if_needed)
 
     def start_if_needed(self) -> None:
+        self.is_delayed = False
         if self.host is None:
             self.put_waiting()
 
@@ -187,11 +275,11 @@ class Hosting:
             what = f"the journals {self.journal} were replaced while the host wrote them"
             tell("bridge", f"{what}: put back the files that it began with")
             host.kill()
-            self.give_up(Status.REFUSED)
+            self.calls.give_up(Status.REFUSED)
         elif self.journals.failed >= FAILED_LOOKS:
             tell("bridge", f"the journals {self.journal} can't be seen any more: a new start looks at them")
             host.kill()
-            self.give_up(Status.PASSES)
+            self.calls.give_up(Status.PASSES)
 
 
 def open_journals(name: str) -> Optional[OpenJournals]:

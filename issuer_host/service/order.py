@@ -1,46 +1,48 @@
-"""Queues script commands and sets statuses, once, and compares the cards before and after.
+"""Queues script commands and sets statuses, each line once.
 
-usage: order --config FILE --journal NAME [--service UNIT ..] [--queued N] [--program PATH] < LINES
+usage: order --socket PATH .. [--number TEXT] < LINES
+       order --config FILE --journal NAME [--service UNIT ..] [--queued N] [--program PATH] < LINES
 
 The lines have the forms `Q PAN PSN HEX` and `S PAN PSN DIGIT`. They don't go through a queue, which may repeat them: a
-command that is put twice is queued twice, and a late status undoes a later one.
+command that is put twice is queued twice, and a late status undoes a later one. It prints the answers.
+
+With --socket a bridge puts them to its host while that runs. Nothing stops. Name the sockets of both bridges of the
+partition: the one that serves takes the lines, one after another.
+
+--number   the order's number: letters, digits and hyphens, 40 at most. It is printed first if it is left out. A line
+           with a number that was done isn't put again: the same call after an interruption tells what became of it
+
+The status is 0 if each line was done, then or before; 1 otherwise, and the lines after the first that wasn't aren't
+put.
+
+Without --socket the program puts them over journals that no host serves, and the cards are compared before and after.
 
 --service  units that are stopped before; those that ran are started after, however this command ends. Their requests
            wait in the queue meanwhile. Without it no host may run
 --queued   refuses unless the one card of the lines has had so many commands: then the same call can be made again after
            an interruption
 
-A second order on the same journals is refused while one runs. It prints the answers. The status is 0 if each line was
-done, and the cards' `queued` and `status` changed by these lines and nothing else; 1 if something is refused or
-differs, with what differs. Then look before you order again.
+A second order on the same journals is refused while one runs. The status is 0 if each line was done, and the cards'
+`queued` and `status` changed by these lines and nothing else; 1 if something is refused or differs, with what differs.
+Then look before you order again. A card whose status an interrupted decline of its account has left gets it back first.
 """
 import argparse
-import collections
-import contextlib
-import fcntl
 import os
-import re
 import sys
-from collections.abc import Iterator, Mapping, Sequence
+from collections.abc import Sequence
 from typing import NamedTuple, Optional
 
-from issuer_host.answers import REFUSED, kind_of
-from issuer_host.masks import name_of_card
-from issuer_host.request_lines import QUEUE
-from issuer_host.service import offline
-from issuer_host.service.folders import open_own
-from issuer_host.service.offline import Card
+from issuer_host.service.orders import Order, order_of
 from issuer_host.service.refusal import Refusal, tell
-from issuer_host.service.units import stopped
-from issuer_host.show_lines import ShownCard
-from issuer_host.statuses import Status
 
-FORM = re.compile(r"(?P<kind>[QS]) (?P<pan>[0-9]{8,19}) (?P<psn>[0-9]{2}) (?P<value>[0-9a-fA-F]+)")
+NO_NUMBER = "-"
 
 
 class Options(NamedTuple):
     """The words of the command."""
 
+    socket: list[str]
+    number: Optional[str]
     config: str
     journal: str
     service: list[str]
@@ -48,115 +50,63 @@ class Options(NamedTuple):
     program: Optional[str]
 
 
-class Line(NamedTuple):
-    """A line that is ordered."""
-
-    text: str
-    kind: str
-    card: Card
-    value: str
-
-
 def options_of(words: Sequence[str]) -> Options:
     parser = argparse.ArgumentParser(usage=__doc__)
-    parser.add_argument("--config", required=True)
-    parser.add_argument("--journal", required=True)
+    parser.add_argument("--socket", nargs="+", default=[])
+    parser.add_argument("--number")
+    parser.add_argument("--config", default="")
+    parser.add_argument("--journal", default="")
     parser.add_argument("--service", nargs="+", default=[])
     parser.add_argument("--queued", type=int)
     parser.add_argument("--program")
-    return Options(**vars(parser.parse_args(words)))
+    options = Options(**vars(parser.parse_args(words)))
+    if bool(options.socket) == bool(options.config and options.journal):
+        parser.error("either --socket, or --config and --journal")
+    if options.number is not None and not options.socket:
+        parser.error("--number is for orders by --socket; over journals --queued does it")
+    if options.socket and (options.service or options.queued is not None):
+        parser.error(
+            "--service and --queued are for orders over journals; by --socket nothing stops, and --number does it"
+        )
+    return options
 
 
-def lines_of(text: str) -> list[Line]:
+def lines_of(text: str, number: str) -> list[Order]:
+    """Returns the lines, each with its number: that of the order, and its own."""
     found = []
-    for number, line in enumerate(text.splitlines(), 1):
-        form = FORM.fullmatch(line)
-        if not form:
-            raise Refusal(f"line {number} has neither the form Q nor S; nothing was ordered")
-        found.append(Line(line, form["kind"], (form["pan"], form["psn"]), form["value"]))
+    for at, line in enumerate(text.splitlines(), 1):
+        order = order_of(f"{number}/{at}", line)
+        if order is None:
+            raise Refusal(f"line {at} has neither the form Q nor S; nothing was ordered")
+        found.append(order)
     if not found:
         raise Refusal("there is no line")
     return found
 
 
-@contextlib.contextmanager
-def alone(journal: str) -> Iterator[None]:
-    """Keeps a second order out until this one ends."""
-    with open(open_own(f"{journal}.orders", os.O_CREAT | os.O_RDWR), "r") as lock:
-        try:
-            fcntl.flock(lock, fcntl.LOCK_EX | fcntl.LOCK_NB)
-        except BlockingIOError as fault:
-            what = "another order on these journals runs; wait for it, and look at what it prints"
-            raise Refusal(what) from fault
-        yield
+def order(options: Options) -> None:
+    text = sys.stdin.read()
+    if not options.socket:
+        from issuer_host.service import offline_order
 
-
-def check(lines: Sequence[Line], before: Mapping[Card, ShownCard], queued: Optional[int]) -> None:
-    """Refuses lines for unknown cards, and a card that isn't as the operator thinks."""
-    for line in lines:
-        if line.card not in before:
-            raise Refusal(f"no {name_of_card(*line.card)} is in this configuration; nothing was ordered")
-    if queued is None:
+        offline_order.order(options, lines_of(text, NO_NUMBER))
         return
-    cards = {line.card for line in lines}
-    if len(cards) != 1:
-        raise Refusal("--queued is for lines of one card")
-    found = before[cards.pop()].queued
-    if found != queued:
-        raise Refusal(f"the card has had {found} commands and not {queued}; nothing was ordered")
+    from issuer_host.service import ordering
 
-
-def differences(
-    lines: Sequence[Line],
-    answers: Sequence[str],
-    before: Mapping[Card, ShownCard],
-    after: Mapping[Card, ShownCard],
-) -> list[str]:
-    """Returns what isn't as the lines ask."""
-    queued: collections.Counter[Card] = collections.Counter()
-    status: dict[Card, int] = {}
-    found = []
-    for number, (line, answer) in enumerate(zip(lines, answers), 1):
-        if kind_of(answer).word == REFUSED:
-            found.append(f"line {number}, of {name_of_card(*line.card)}, was answered `{answer}`")
-        elif line.kind == QUEUE:
-            queued[line.card] += 1
-        else:
-            status[line.card] = int(line.value)
-    if len(answers) != len(lines):
-        found.append(f"{len(answers)} of {len(lines)} lines were answered")
-    for card, shown in before.items():
-        expected = shown.queued + queued[card], status.get(card, shown.status)
-        now = after[card].queued, after[card].status
-        if now != expected:
-            what = f"queued {now[0]} and status {now[1]}, but {expected[0]} and {expected[1]} were expected"
-            found.append(f"{name_of_card(*card)} has {what}")
-    return found
-
-
-def order(options: Options, lines: Sequence[Line]) -> None:
-    where = options.config, options.journal, options.program
-    with alone(options.journal), stopped(options.service):
-        try:
-            before = offline.show(*where)
-            check(lines, before, options.queued)
-            answers = offline.serve([line.text for line in lines], *where)
-            after = offline.show(*where)
-        except offline.Failed as fault:
-            is_busy = fault.status == Status.JOURNAL_CLOSED
-            busy = " A host serves them: name its units by --service." if is_busy else ""
-            raise Refusal(f"{fault}.{busy}") from fault
-    print("\n".join(answers))
-    found = differences(lines, answers, before, after)
-    if found:
-        raise Refusal("; ".join(found))
+    number = options.number or os.urandom(8).hex()
+    if not ordering.is_number(number):
+        raise Refusal("the number is letters, digits and hyphens, 40 at most; nothing was ordered")
+    lines = lines_of(text, number)
+    if options.number is None:
+        tell("order", f"its number is {number}")
+    ordering.order(options.socket, number, lines)
 
 
 def main(words: Sequence[str]) -> int:
     options = options_of(words)
     os.umask(0o077)
     try:
-        order(options, lines_of(sys.stdin.read()))
+        order(options)
     except Refusal as refusal:
         tell("order", str(refusal))
         return 1
