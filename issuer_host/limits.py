@@ -6,6 +6,8 @@ MAX_CARDS = 4096
 MAX_TABLE_ROWS = 64
 MAX_CALLERS = 16
 MAX_CONFIGURATION_BYTES = 4_194_304
+# An ATC so far below its card's greatest is refused.
+WINDOW = 256
 
 # Bytes of a request line without its newline: no longer line has one of the forms.
 MAX_LINE_BYTES = 2051

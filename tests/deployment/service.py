@@ -7,10 +7,12 @@ from functools import partial
 
 from checks import Check, Tally, check_of
 from deployment.running import run_tool
-from issuer_host.answers import ANSWERS, kind_of
+from issuer_host.answers import ANSWERS, REFUSALS, kind_of
 from issuer_host.gateway.figures import Figures
+from issuer_host.limits import WINDOW
 from issuer_host.paths import HOME
 from issuer_host.request_lines import pan_of_line
+from issuer_host.service.hosting import LOAD_SECONDS
 from issuer_host.service.packaging.make_deb import standby_of
 from issuer_host.statuses import NOT_RESTARTED
 from runs import content_of, write_text
@@ -90,6 +92,40 @@ def alert_rules_are_right(tally: Tally) -> None:
         tally.holds(ran.returncode == 0, f"the alert rules: {ran.stdout!r} {ran.stderr!r}")
 
 
+def each_alert_is_raised(tally: Tally) -> None:
+    """Each alert rule has a test that raises it, and one in which it isn't raised yet."""
+    rules = re.findall(r"(?m)^ +- alert: (\w+)$", content_of(os.path.join(DEPLOY, "alerts.yml")))
+    tests = re.findall(
+        r"alertname: (\w+)(, exp_alerts: \[\]|\s+exp_alerts:\s+- exp_labels)",
+        content_of(os.path.join(DEPLOY, "alerts_test.yml")),
+    )
+    for rule in rules:
+        raised = {bool(what.split()[-1] != "[]") for name, what in tests if name == rule}
+        tally.holds(True in raised, f"{rule}: no test raises it")
+    tally.expect({name for name, _ in tests} - set(rules), set(), "tests of rules that don't exist")
+
+
+def alerts_have_the_programs_numbers(tally: Tally) -> None:
+    """The numbers in the alert rules are those of the program: refusals, the window, the statuses of an end."""
+    text = content_of(os.path.join(DEPLOY, "alerts.yml"))
+    known = {str(int(refusal)) for refusal in REFUSALS}
+    named = set(re.findall(r'refusal="(\d+)"', text))
+    tally.expect((named - known, bool(named)), (set(), True), "the refusals that rules name, and none answers")
+    below = re.findall(r"ATC was (\d+) or more below", text)
+    tally.expect(below, [str(WINDOW)], "how far an ATC is below its card's greatest")
+    limit = re.search(
+        r"(?m)^\| window of transaction counters \| (\d+);", content_of(os.path.join(HOME, "docs/FORMATS.md"))
+    )
+    tally.expect(limit and limit[1], str(WINDOW), "the window in docs/FORMATS.md")
+    statuses = [str(int(status)) for status in sorted(NOT_RESTARTED)]
+    said = re.findall(r"a status ([0-9, or]+) needs you", text)
+    tally.expect([re.findall(r"\d+", one) for one in said], [statuses], "the statuses that need a person")
+    loads = re.findall(r"issuer_host_start_seconds\) > (\d+)", text)
+    tally.expect(loads, [str(int(LOAD_SECONDS))], "how long a start takes that loads little")
+    for bytes_of, kibibytes in re.findall(r"unwritten_bytes\) > (\d+)(?:.*\n){5}.*?(\d+) KiB", text):
+        tally.expect(int(bytes_of), 1024 * int(kibibytes), "how far a standby is behind, in the rule and in words")
+
+
 def figures_told() -> set[str]:
     """The names of the figures that the bridge, the commands and the gateway write."""
     found = set()
@@ -118,6 +154,8 @@ CHECKS = [
         for name in UNITS
     ),
     check_of(alert_rules_are_right)._replace(may_be_empty=True),
+    check_of(each_alert_is_raised),
+    check_of(alerts_have_the_programs_numbers),
     *(
         Check(
             f"figures_of_{name.partition('.')[0]}",
