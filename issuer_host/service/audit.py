@@ -46,6 +46,12 @@ class Audit:
             said |= {"order": number}
         self.note(said)
 
+    def started(self, command: str, uid: int, why: str = "") -> None:
+        """A start was handed over to the program, or refused. One that can't be noted is told by nobody."""
+        self.is_failing = True
+        said: dict[str, object] = {"by": self.name, "what": "refused" if why else "start", "command": command}
+        self.note({**said, "uid": uid, **({"why": why} if why else {})})
+
     def note(self, said: "dict[str, object]") -> None:
         """Appends a line, unless that fails: then the first of such failures is told."""
         now = datetime.datetime.now(datetime.timezone.utc)

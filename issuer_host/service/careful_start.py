@@ -15,6 +15,8 @@ The words from the command on are the program's own; see issuer(1). Before it ha
 Started by root over journals in another user's folder, it goes on as that user, who need not be able to read the
 configuration's file.
 
+Each start, and each that is refused, is a line of the log beside the journals (`JOURNAL.audit`).
+
 It allows no core of itself and of the program. Each journal is what the seals beside it say (`JOURNAL.seals`), and no
 bytes that no crash leaves come after its last newline.
 
@@ -34,6 +36,7 @@ from issuer_host.limits import MAX_SHARDS
 from issuer_host.memory import keep_from_others
 from issuer_host.paths import PROGRAM, RECORD
 from issuer_host.proof import is_proved
+from issuer_host.service.audit import Audit
 from issuer_host.service.faults import lasts, refuse_if_lasting
 from issuer_host.service.journal_checks import check_input, check_journals
 from issuer_host.service.refusal import Refusal, tell
@@ -138,6 +141,7 @@ def is_proved_soon() -> bool:
 
 def hand_over(start: Start) -> int:
     """Checks all that there is to check, and becomes the program. It returns only if it doesn't."""
+    user = os.getuid()
     os.umask(0o077)
     keep_from_others()
     check_descriptors()
@@ -152,6 +156,7 @@ def hand_over(start: Start) -> int:
     program = program_of(start)
     if program is None:
         return Status.NO_PROGRAM
+    Audit(needed(JOURNAL, words), NAME).started(words[0], user)
     os.execv(program, ["issuer", *words])
 
 
@@ -166,11 +171,21 @@ def run(words: Sequence[str]) -> int:
     return hand_over(start)
 
 
+def note_refusal(words: Sequence[str], user: int, why: str) -> None:
+    """Has the log say of a start that was refused."""
+    command = next((word for word in words if word in OVER_JOURNALS), "")
+    journal = value_of(JOURNAL, words)
+    if command and os.path.isdir(os.path.dirname(journal) or "."):
+        Audit(journal, NAME).started(command, user, why)
+
+
 def main(words: Sequence[str]) -> int:
+    user = os.getuid()
     try:
         return run(words)
     except Refusal as refusal:
         tell(NAME, str(refusal))
+        note_refusal(words, user, str(refusal))
     except OSError as fault:
         tell(NAME, f"{fault.filename or 'the program'}: {fault.strerror}")
         return Status.REFUSED if lasts(fault) else Status.PASSES
