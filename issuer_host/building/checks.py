@@ -11,6 +11,7 @@ WITHOUT_PROGRAM = (
     "tests/crates",
     "tests/figures",
     "tests/make_vectors --check",
+    "tests/kcv",
     "tests/edits/run --check",
     "tests/mutants/try_all --check",
     "tools/box_circuits --check",

@@ -10,8 +10,14 @@ from issuer_host.journals import journal_path, old_journal_path
 ALONE = {"--help": "", "-h": "", "help": "", "--version": "", "prove": ", or with --anew", "test": ""}
 HELP = ("--help", "-h")
 KNOWN = (*COMMANDS, "prove", "test", "help", "--help", "--version", "--never-build", *OPTIONS)
-# What a command that only reads does over a journal that it begins: mostly its name is wrong.
-OVER_NOTHING = {"show": "prints cards without records", "clear": "finds no decision", "export": "prints no line"}
+# What a command does over journals that it begins. If they were there before, their name is wrong.
+OVER_NOTHING = {
+    "serve": "decides every request anew",
+    "show": "prints cards without records",
+    "clear": "finds no decision",
+    "export": "prints no line",
+    "standby": "takes records from the first one on",
+}
 
 # Of a word that is neither a command nor an option so many characters are compared and told.
 SHOWN = 60
@@ -76,7 +82,7 @@ def of_values(words: Sequence[str]) -> str:
 
 
 def new_journal(words: Sequence[str]) -> str:
-    """Says which journal a command that only reads begins; nothing if the first one exists."""
+    """Says which journal a command begins; nothing if the first one exists."""
     does, name = OVER_NOTHING.get(words[0]), value_of(JOURNAL, words)
     paths = journal_path(name, 0), old_journal_path(name, 0)
     if not does or any(map(os.path.exists, paths)):

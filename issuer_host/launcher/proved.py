@@ -6,7 +6,7 @@ import sys
 from collections.abc import Sequence
 from typing import Any, Optional
 
-from issuer_host.commands import CLEARING, value_of
+from issuer_host.commands import CLEARING, JOURNAL, OVER_JOURNALS, value_of
 from issuer_host.launcher.causes import explained
 from issuer_host.launcher.judged import Judged
 from issuer_host.launcher.running import run_program
@@ -14,6 +14,7 @@ from issuer_host.launcher.sources import PROOF_PARTS, crates_below, files_of, so
 from issuer_host.launcher.toolchain import kit_of, toolchain
 from issuer_host.paths import BUILD, HOME, PROGRAM, RECORD
 from issuer_host.proof import read_record
+from issuer_host.run_mark import lock_mark
 
 # The files' times and sizes at the last comparison of their sums with the record's.
 STAMPS = os.path.join(BUILD, "issuer.stamps")
@@ -95,6 +96,14 @@ def why_changed(record: dict[str, Any]) -> Optional[str]:
 
 
 def run_proved(words: Sequence[str]) -> int:
+    """Runs the proved program, and says beside its journals that a run may append."""
+    mark = lock_mark(value_of(JOURNAL, words), creates=False) if words[0] in OVER_JOURNALS else None
+    if mark is not None:
+        mark.may_append()
+    return run_watched(words)
+
+
+def run_watched(words: Sequence[str]) -> int:
     """Runs the proved program. On a terminal it tells how far `clear` has come."""
     if words[0] != "clear" or not sys.stderr or not sys.stderr.isatty():
         return explained(words, *run_program([PROGRAM, *words]))

@@ -1,24 +1,29 @@
 """Starts the program over its journals, or refuses if a start would forget what was decided.
 
-usage: issuer-run [--begin] [--program PATH] serve|show|clear|export|standby --config FILE --journal NAME ..
+usage: issuer-run [--begin] [--accept-journals] [--program PATH] serve|show|clear|export|standby --config FILE
+                  --journal NAME ..
 
 The words from the command on are the program's own; see issuer(1). Before it hands over to the program it checks:
 
 - the program is the one whose proof is recorded beside it, or another that --program names
 - standard input, output and error output are open
+- the configuration, with its keys, can be opened by this user and root alone
 - a journal exists for each shard of the configuration, and for no shard past them. If none exists, --begin creates
   them, empty, once: the program copies the records of old journals, of version 1, into them. If old journals exist,
   all do
 - each journal, old or not, is a regular file of this user, with one name, that no other user can open; so is a pipe
   that --requests or --feed names
+- no journal is empty where another has records
+- each journal is what the seals beside it say (`JOURNAL.seals`), and hasn't grown since its last run ended (`NAME.run`)
+- no bytes come after a journal's last newline that no crash leaves. How many a crash left is told
+
+--accept-journals, once, takes the journals as they are where one of the last three is refused: what they lack is
+forgotten, and seals are made anew.
 
 Started by root over journals in another user's folder, it goes on as that user, who need not be able to read the
-configuration's file.
+configuration's file. It allows no core of itself and of the program.
 
 Each start, and each that is refused, is a line of the log beside the journals (`JOURNAL.audit`).
-
-It allows no core of itself and of the program. Each journal is what the seals beside it say (`JOURNAL.seals`), and no
-bytes that no crash leaves come after its last newline.
 
 Otherwise it ends with status 78, and the error output has a sentence on what to do; with 70 there is no proved program;
 with 75 something failed that passes, as a disk that can't be read for a moment.
@@ -31,16 +36,18 @@ from collections.abc import Sequence
 from typing import NamedTuple, Optional
 
 from issuer_host.commands import COMMANDS, CONFIG, JOURNAL, OVER_JOURNALS, Option, value_of
-from issuer_host.journals import journal_path
 from issuer_host.limits import MAX_SHARDS
 from issuer_host.memory import keep_from_others
 from issuer_host.paths import PROGRAM, RECORD
 from issuer_host.proof import is_proved
 from issuer_host.service.audit import Audit
 from issuer_host.service.faults import lasts, refuse_if_lasting
-from issuer_host.service.journal_checks import check_input, check_journals
+from issuer_host.service.folders import folder_of
+from issuer_host.service.history_checks import check_history
+from issuer_host.service.journal_checks import check_journals
+from issuer_host.service.private_files import check_input, check_keys
 from issuer_host.service.refusal import Refusal, tell
-from issuer_host.service.seals import check_sealed
+from issuer_host.service.seals import ACCEPTS
 from issuer_host.service.users import become_owner
 from issuer_host.statuses import Status
 
@@ -55,25 +62,27 @@ class Start(NamedTuple):
     """The words of the command: those before the program's own, and those."""
 
     begins: bool
+    # Whether journals are taken that aren't as they were left.
+    accepts: bool
     # Another program than the proved one.
     program: Optional[str]
     words: list[str]
 
 
 def start_of(words: Sequence[str]) -> Start:
-    begins = False
+    given = set()
     program = None
     words = list(words)
-    while words[:1] in (["--begin"], ["--program"]):
-        if words[0] == "--begin":
-            begins = True
-            words = words[1:]
-        else:
+    while words[:1] in (["--begin"], [ACCEPTS], ["--program"]):
+        if words[0] == "--program":
             if len(words) < 2:
                 raise Refusal("--program and its value are missing")
             program = words[1]
             words = words[2:]
-    return Start(begins, program, words)
+        else:
+            given.add(words[0])
+            words = words[1:]
+    return Start("--begin" in given, ACCEPTS in given, program, words)
 
 
 def needed(option: Option, words: Sequence[str]) -> str:
@@ -116,6 +125,17 @@ def owned(words: list[str]) -> list[str]:
     return [*words[:at], become_owner(config, folder), *words[at + 1 :]]
 
 
+def owners_of(words: Sequence[str]) -> set[int]:
+    """Returns the users who may own the configuration: root, this one, and that of the journals."""
+    found = {0, os.geteuid()}
+    try:
+        found.add(os.stat(folder_of(needed(JOURNAL, words))).st_uid)
+    except OSError:
+        # (refused when the journals are looked for)
+        pass
+    return found
+
+
 def program_of(start: Start) -> Optional[str]:
     """Returns the path of the program that is started, or None if there is no proved one."""
     if start.program is not None:
@@ -145,17 +165,17 @@ def hand_over(start: Start) -> int:
     os.umask(0o077)
     keep_from_others()
     check_descriptors()
+    check_keys(needed(CONFIG, start.words), owners_of(start.words))
     words = owned(start.words)
     shards = shards_of(needed(CONFIG, words))
-    check_journals(needed(JOURNAL, words), shards, start.begins)
-    for shard in range(shards):
-        check_sealed(journal_path(needed(JOURNAL, words), shard))
+    check_journals(needed(JOURNAL, words), shards, start.begins, start.accepts)
     lines = COMMANDS[words[0]].lines
     if lines and lines.may_be_piped:
         check_input(needed(lines.option, words))
     program = program_of(start)
     if program is None:
         return Status.NO_PROGRAM
+    check_history(words[0], needed(JOURNAL, words), shards, start.accepts)
     Audit(needed(JOURNAL, words), NAME).started(words[0], user)
     os.execv(program, ["issuer", *words])
 

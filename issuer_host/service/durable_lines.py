@@ -47,6 +47,11 @@ class FollowedJournal:
             left -= len(whole)
         return at
 
+    def go_to(self, index: int) -> None:
+        """Goes on from another record."""
+        self.index = index
+        self.at = None
+
     def check(self) -> None:
         """Refuses a journal that isn't the one that was opened, or that is shorter than what was written of it."""
         opened = os.fstat(self.file)

@@ -1,6 +1,6 @@
 """Follows the journals of a host that runs, and writes their records as a feed for a standby.
 
-usage: follow --journal NAME [--from COUNTS] [--answers FILE] [--lines N] [--every SECONDS] [--figures FILE]
+usage: follow --journal NAME [--from COUNTS] [--answers FILE] [--lines N] [--every SECONDS] [--figures FILE] [--seals]
 
   follow --journal NAME --from "$(issuer standby --config FILE --feed /dev/null --journal OTHER)" |
       issuer standby --config FILE --feed /dev/stdin --journal OTHER
@@ -10,10 +10,11 @@ usage: follow --journal NAME [--from COUNTS] [--answers FILE] [--lines N] [--eve
 --lines    ends after so many lines (1,048,576, which is all that one run of a standby takes)
 --every    how long it waits before it looks for more (0.02)
 --figures  a file for the text file collector of Prometheus' node exporter: how many bytes aren't written yet
+--seals    seals what it writes, in the files beside the journals that a careful start checks. A bridge does so itself
 
 A record is written once it is durable for certain: when more of the journal follows it, or an answer names it. So
 without --answers the last record of each shard waits for the next one. It only reads the journals, and takes no lock on
-them.
+them; with --seals it writes the seals beside them, if it can.
 
 It ends with 0 at SIGTERM or SIGINT, after --lines, or when the answers end, always after a whole line; with 4 if nobody
 reads its output any more; with 1 if the journals aren't those that it began with, and says why.
@@ -33,6 +34,7 @@ from issuer_host.limits import MAX_SHARDS, RUN_LINES
 from issuer_host.service import textfile
 from issuer_host.service.durable_lines import AnswerPipe, FollowedJournal
 from issuer_host.service.refusal import Refusal, tell
+from issuer_host.service.sealing import Sealing
 from issuer_host.statuses import Status
 
 NAME = "follow"
@@ -56,6 +58,7 @@ class Options(NamedTuple):
     lines: int
     every: float
     figures: Optional[str]
+    seals: bool
 
 
 def options_of(words: Sequence[str]) -> Options:
@@ -66,6 +69,7 @@ def options_of(words: Sequence[str]) -> Options:
     parser.add_argument("--lines", type=int, default=RUN_LINES)
     parser.add_argument("--every", type=float, default=0.02)
     parser.add_argument("--figures")
+    parser.add_argument("--seals", action="store_true")
     return Options(**vars(parser.parse_args(words)))
 
 
@@ -100,9 +104,11 @@ class Follower:
         answers: AnswerPipe,
         output: Output,
         figures: Optional[str] = None,
+        sealing: Optional[Sealing] = None,
     ) -> None:
         self.name = name
         self.figures = figures
+        self.sealing = sealing
         # When the figures were written last.
         self.told = 0.0
         self.starts = starts
@@ -156,11 +162,19 @@ class Follower:
         while self.output.left:
             are_all = self.answers.are_all
             count = self.write_durable()
+            self.seal()
             if are_all and not count:
                 return
             self.wait(0 if count or are_all else seconds)
             self.open_more()
             self.tell_figures()
+
+    def seal(self) -> None:
+        """Seals what is durable for certain: what was written is."""
+        if self.sealing is not None:
+            for journal in self.journals:
+                self.sealing.are_durable(journal.shard, journal.index)
+            self.sealing.look()
 
     def tell_figures(self) -> None:
         """Writes how far the feed is behind, once a second. That it can't be written ends nothing."""
@@ -198,7 +212,8 @@ def main(words: Sequence[str]) -> int:
     try:
         starts = starts_of(options.starts)
         answers = AnswerPipe(options.answers)
-        follower = Follower(options.journal, starts, answers, Output(options.lines), options.figures)
+        sealing = Sealing(options.journal, NAME) if options.seals else None
+        follower = Follower(options.journal, starts, answers, Output(options.lines), options.figures, sealing)
         follower.follow(options.every)
     except Closed:
         return Status.OUTPUT

@@ -1,40 +1,15 @@
 """Which states of the journals a start refuses, and how the first ones are created."""
 import os
-import stat
 from collections.abc import Sequence
 
-from issuer_host.journals import Shards, journal_path, journals_of, old_journal_path, shards_of_files
+from issuer_host.journals import VERSION_LINE, Shards, journal_path, journals_of, old_journal_path, shards_of_files
 from issuer_host.service.faults import refuse_if_lasting
+from issuer_host.service.private_files import check_private
 from issuer_host.service.refusal import Refusal
-
-# What others may not do with a journal, and nobody needs.
-OPEN_TO_OTHERS = 0o177
+from issuer_host.service.seals import ACCEPTS
 
 
-def check_private(path: str, what: str) -> None:
-    """Refuses a file that isn't this user's alone, or that isn't the only name of what it holds."""
-    found = os.lstat(path)
-    if what == "journal" and not stat.S_ISREG(found.st_mode):
-        raise Refusal(f"the journal {path} is no regular file")
-    if what == "pipe" and not stat.S_ISFIFO(found.st_mode):
-        raise Refusal(f"{path} is no pipe")
-    if found.st_uid != os.geteuid():
-        owners = f"belongs to user {found.st_uid}, and this is user {os.geteuid()}"
-        raise Refusal(f"the {what} {path} {owners}: chown it, or start as its owner")
-    if found.st_mode & OPEN_TO_OTHERS:
-        mode = f"mode {stat.S_IMODE(found.st_mode):04o}"
-        raise Refusal(f"the {what} {path} has {mode}, so that others could open it: chmod 600 {path}")
-    if found.st_nlink != 1:
-        raise Refusal(f"the {what} {path} has {found.st_nlink} names: remove the others")
-
-
-def check_input(path: str) -> None:
-    """Refuses a named pipe that others could write to. Files and /dev/stdin are the caller's."""
-    if os.path.exists(path) and not os.path.islink(path) and stat.S_ISFIFO(os.lstat(path).st_mode):
-        check_private(path, "pipe")
-
-
-def check_journals(name: str, shards: int, begins: bool) -> None:
+def check_journals(name: str, shards: int, begins: bool, accepts: bool) -> None:
     """Refuses any state of the journals but all of them, or none and the word to begin."""
     found = found_journals(name)
     check_past(name, shards, found)
@@ -51,6 +26,29 @@ def check_journals(name: str, shards: int, begins: bool) -> None:
         create_journals(name, shards)
     for path in journals_of(name):
         check_private(path, "journal")
+    if not accepts:
+        check_empty(name, shards)
+
+
+def check_empty(name: str, shards: int) -> None:
+    """Refuses a journal without its first line where another has records: each start writes that line to all."""
+    sizes = {shard: os.path.getsize(journal_path(name, shard)) for shard in range(shards)}
+    if max(sizes.values()) <= len(VERSION_LINE):
+        return
+    for shard, size in sizes.items():
+        # (records of an old journal are copied shard by shard)
+        if not size and not bytes_of(old_journal_path(name, shard)):
+            raise Refusal(
+                f"{journal_path(name, shard)} is empty, and others have records: what it recorded would be decided"
+                f" again. Restore it from a copy. If it is right as it is, add {ACCEPTS}, once"
+            )
+
+
+def bytes_of(path: str) -> int:
+    try:
+        return os.path.getsize(path)
+    except FileNotFoundError:
+        return 0
 
 
 def found_journals(name: str) -> Shards:

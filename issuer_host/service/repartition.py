@@ -21,9 +21,10 @@ from typing import NamedTuple, Optional, TextIO
 from issuer_host.journals import card_of_record, journal_path, journals_of, records_of
 from issuer_host.masks import name_of_card
 from issuer_host.partitions import partition_configuration, partition_journal
+from issuer_host.run_mark import lock_mark
 from issuer_host.service import configurations, offline
 from issuer_host.service.configurations import Json, name_of
-from issuer_host.service.folders import open_own
+from issuer_host.service.folders import as_owner, folder_of, open_own
 from issuer_host.service.offline import Card
 from issuer_host.service.refusal import Refusal, tell
 from issuer_host.show_lines import ShownCard
@@ -78,6 +79,17 @@ class Side:
     def touched(self) -> list[Touched]:
         found = [os.stat(path) for path in self.paths()]
         return [Touched(one.st_ino, one.st_size, one.st_mtime_ns) for one in found]
+
+    def mark_appended(self) -> None:
+        """Says beside the journals that what comes next no run of the program writes."""
+        for partition in range(len(self.configurations)):
+            name = self.journal(partition)
+            with as_owner(folder_of(name)):
+                mark = lock_mark(name)
+            if mark is None:
+                raise Refusal(f"a host runs over {name}: stop it")
+            mark.may_append()
+            mark.close()
 
     def cards(self) -> list[Json]:
         return [card for configuration in self.configurations for card in configuration["cards"]]
@@ -147,6 +159,7 @@ def repartition(old: Side, new: Side, program: Optional[str]) -> None:
     before = old.show(program)
     touched = old.touched()
     new.show(program, begins=True)
+    new.mark_appended()
     count = move(old, new)
     if old.touched() != touched:
         what = "stop all bridges, remove the new state, and begin again"

@@ -3,6 +3,7 @@ from issuer_host.answers import RECORDED
 from issuer_host.limits import MAX_SHARDS
 from issuer_host.service.durable_lines import FollowedJournal
 from issuer_host.service.refusal import Refusal, tell
+from issuer_host.run_mark import lock_mark
 from issuer_host.service.seals import Seals, seals_of
 
 # So many pieces of a journal are sealed at a time, so that the bridge's loop goes on.
@@ -12,10 +13,12 @@ PIECES = 16
 class Sealing:
     """The journals that one run of a host writes. A fault ends the sealing and nothing else: the next start seals."""
 
-    def __init__(self, name: str) -> None:
+    def __init__(self, name: str, by: str = "bridge") -> None:
         self.name = name
+        # Who tells of a fault.
+        self.by = by
         self.journals: dict[int, tuple[FollowedJournal, Seals]] = {}
-        self.answered: dict[int, int] = {}
+        self.durable: dict[int, int] = {}
         self.is_over = False
 
     def answer(self, text: str) -> None:
@@ -23,39 +26,54 @@ class Sealing:
         word, _, place = text.partition(" ")
         numbers = place.split(" ", 2)
         if word in RECORDED and len(numbers) > 1:
-            shard = int(numbers[0])
-            self.answered[shard] = max(self.answered.get(shard, 0), int(numbers[1]) + 1)
+            self.are_durable(int(numbers[0]), int(numbers[1]) + 1)
+
+    def are_durable(self, shard: int, count: int) -> None:
+        """So many records of a shard are durable."""
+        self.durable[shard] = max(self.durable.get(shard, 0), count)
 
     def look(self) -> None:
         """Seals what is durable."""
         if self.is_over:
             return
         try:
-            for shard, count in self.answered.items():
+            for shard, count in self.durable.items():
                 self.seal(shard, count)
         except (OSError, Refusal) as fault:
-            tell("bridge", f"the journals aren't sealed any more until the next start: {fault}")
-            self.end()
+            tell(self.by, f"the journals aren't sealed any more until the next start: {fault}")
+            self.close()
 
-    def seal(self, shard: int, answered: int) -> None:
+    def seal(self, shard: int, durable: int) -> None:
         if shard not in self.journals and shard < MAX_SHARDS:
             followed = FollowedJournal(shard, self.name, 0)
-            seals = Seals(followed.path)
-            followed.index = seals.count
-            self.journals[shard] = followed, seals
+            self.journals[shard] = followed, Seals(followed.path)
         followed, seals = self.journals[shard]
-        for _ in range(PIECES):
-            lines = followed.durable_lines(answered)
-            if not lines:
-                return
-            seals.append(seals_of(seals.last(), lines))
-            for line in lines:
-                followed.wrote(line)
+        with seals.locked():
+            if followed.index != seals.count:
+                # (another process seals them too, or a run before this one did)
+                followed.go_to(seals.count)
+            for _ in range(PIECES):
+                lines = followed.durable_lines(durable)
+                if not lines:
+                    return
+                seals.append(seals_of(seals.last(), lines))
+                for line in lines:
+                    followed.wrote(line)
 
-    def end(self) -> None:
-        """Closes what is open."""
+    def close(self) -> None:
         self.is_over = True
         for followed, seals in self.journals.values():
             followed.close()
             seals.__exit__()
         self.journals.clear()
+
+    def end(self) -> None:
+        """The host has ended: what is appended from now on no run wrote. If another run has begun, that one says so."""
+        self.close()
+        try:
+            mark = lock_mark(self.name, creates=False)
+            if mark is not None:
+                mark.has_ended()
+                mark.close()
+        except OSError as fault:
+            tell(self.by, f"the end of the run isn't marked: {fault.strerror}")
