@@ -46,7 +46,8 @@ COMMANDS = {
 }
 UNIT, STANDBY, GATEWAY = "issuer@.service", "issuer-standby@.service", "issuer-gateway.service"
 MANUALS = ("issuer.1", "issuer-journal.5", "issuer-deploy.8", "issuer-gateway.8")
-PAGES = ("FORMATS.md", "INTEGRATION.md", "SCALE.md", "SECURITY.md", "CLEARING.md", "OPERATIONS.md")
+# All pages: each points to others.
+PAGES = (*sorted(name for name in os.listdir(os.path.join(HOME, "docs")) if name.endswith(".md")), "CHANGELOG.md")
 
 
 class Options(NamedTuple):
@@ -128,6 +129,12 @@ def add_commands(tree: Tree) -> None:
     os.makedirs(os.path.join(tree.root, "etc/issuer"), mode=0o700)
 
 
+def path_of_page(name: str) -> str:
+    """Returns where a page of the package lies in the tree: in docs, or at the top."""
+    path = os.path.join(HOME, "docs", name)
+    return path if os.path.exists(path) else os.path.join(HOME, name)
+
+
 def add_pages(tree: Tree, maintainer: str) -> None:
     for name in MANUALS:
         tree.page(name)
@@ -143,7 +150,7 @@ def add_pages(tree: Tree, maintainer: str) -> None:
     tree.compress(f"{at}/changelog.gz", changes.encode())
     tree.write("usr/share/lintian/overrides/issuer", OVERRIDES)
     for name in PAGES:
-        with open(os.path.join(HOME, "docs", name), "rb") as data:
+        with open(path_of_page(name), "rb") as data:
             tree.compress(f"{at}/{name}.gz", data.read())
     tree.copy(os.path.join(DEPLOY, "README.md"), f"{at}/README.md")
     for name in ("alerts.yml", "dashboard.json"):

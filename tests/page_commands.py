@@ -1,0 +1,81 @@
+"""The commands of a page, with what they print, and a shell that runs them.
+
+A command is an indented line that begins with `$ `, with the lines of its here-document if it has one. The indented
+lines up to the next command, or to the block's end, are what it prints.
+"""
+import os
+import re
+import signal
+import subprocess
+from collections.abc import Mapping, Sequence
+from dataclasses import dataclass
+from typing import Optional
+
+from issuer_host.paths import HOME
+
+# (no page and no program writes it)
+MARK = "\x1e"
+INDENT = "    "
+PROMPT = "$ "
+
+
+@dataclass
+class Command:
+    """A command of a page, with its here-document, its line, and the text that it has to print."""
+
+    text: str
+    line: int
+    prints: str = ""
+
+
+def commands_of(page: str) -> list[Command]:
+    """Returns the commands of a page."""
+    found: list[Command] = []
+    # The word that ends a here-document, and whether what follows is printed by the last command.
+    ending = ""
+    is_printed = False
+    with open(os.path.join(HOME, page), encoding="utf-8") as text:
+        for number, line in enumerate(text, 1):
+            if not line.startswith(INDENT):
+                is_printed = is_printed and line.strip() == "" and ending != ""
+                ending = ""
+                continue
+            line = line.removeprefix(INDENT)
+            if ending:
+                found[-1].text += line
+                ending = "" if line.strip() == ending else ending
+            elif line.startswith(PROMPT):
+                found.append(Command(line.removeprefix(PROMPT), number))
+                here = re.search(r"<<'?(\w+)'?", line)
+                ending = here[1] if here else ""
+                is_printed = True
+            elif is_printed:
+                found[-1].prints += line
+    return found
+
+
+def script_of(commands: Sequence[Command]) -> str:
+    """Returns a script of the commands, which writes a mark after each."""
+    return "".join(f"{command.text}printf '{MARK}'\n" for command in commands)
+
+
+def run_shell(
+    script: str, folder: str, seconds: float, environment: Optional[Mapping[str, str]] = None
+) -> tuple[str, str, int]:
+    """Runs a script of commands. Returns what it wrote and complained, and its status."""
+    shell = subprocess.Popen(
+        ["bash", "-c", script],
+        cwd=folder,
+        env=environment,
+        text=True,
+        stdin=subprocess.DEVNULL,
+        stdout=subprocess.PIPE,
+        stderr=subprocess.PIPE,
+        start_new_session=True,
+    )
+    try:
+        wrote, complained = shell.communicate(timeout=seconds)
+    except subprocess.TimeoutExpired:
+        os.killpg(shell.pid, signal.SIGKILL)
+        wrote, complained = shell.communicate()
+    return wrote, complained, shell.returncode
