@@ -1,9 +1,9 @@
 -- Lists that are the same where they are read one way, and what is dealt of them in turns.
-use Rattle.std.proofs.Common.{◌≡◌, ◌≢◌, ℕ, zero, suc, ◌+◌, ◌-◌, ◌<◌, ◌≤◌, List, [], ◌∷◌, ◌++◌, length, set, map, All, Some, get_or, refl, sym, ap, subst, ◌∙◌, arith, inl, inr}
+use Rattle.std.proofs.Common.{◌≡◌, ◌≢◌, ℕ, zero, suc, ◌+◌, ◌-◌, ◌<◌, ◌≤◌, Bool, true, List, [], ◌∷◌, ◌++◌, length, set, map, All, Some, get_or, refl, sym, ap, subst, ◌∙◌, arith, inl, inr}
 use Rattle.std.proofs.lemmas.List.{length-map}
 use Rattle.std.proofs.lemmas.List.Elements.{All-get_or}
 use Rattle.std.proofs.lemmas.Option.{slice_get-get_or, slice_get_within, get_or_from_slice_get}
-use Rattle.std.specs.List.{slice_get}
+use Rattle.std.specs.List.{slice_get, list_any}
 use Rattle.host_loading.proofs.Places.{read-map, read-mapped, read-other}
 use Rattle.shared_laws.specs.Dealing.{every, HaveTurns}
 use Rattle.shared_laws.proofs.HavingTurns.{some-same, at-set}
@@ -14,6 +14,11 @@ all-at P xs each = λ number d below. each number (get_or xs number d) (slice_ge
 pub at-all : {X : Type 0} (P : X → Type 0) (xs : List X) (number : ℕ) (x : X) → All P xs → slice_get xs number ≡ Some x → P x
 at-all P xs number x all is =
     subst P (get_or_from_slice_get xs number x x is) (All-get_or P xs number x (slice_get_within xs number x is) all)
+
+-- a list of which some item is so has one
+pub some-of-any : {X : Type 0} (p : X → Bool) (xs : List X) → list_any p xs ≡ true → 0 < length xs
+some-of-any p [] is = absurd (cc)
+some-of-any p (x ∷ xs) is = omega arith
 
 -- ---- lists that are the same where they are read one way
 

@@ -1,5 +1,5 @@
 -- The lines and answers of a lane, and what its pass knows.
-use Rattle.std.specs.Prelude.{◌≡◌, ℕ, List, [], length, map, take, drop, slice_get, Some}
+use Rattle.std.specs.Prelude.{◌≡◌, ℕ, ◌==◌, Bool, not, List, [], length, map, take, drop, slice_get, Some}
 use Rattle.issuer_base.specs.declared.answer.Answer.{Answer}
 use Rattle.issuer_base.specs.declared.outside.store.Store.{Ghosts}
 use Rattle.issuer_setup.specs.IssuerSetup.{Setup}
@@ -18,6 +18,10 @@ use Rattle.shared_callers.specs.declared.lane.LaneRoom.{LaneRoom}
 -- the lines that it answers, or has answered
 abbrev pub waiting_lines : Lane → List (List ℕ)
 waiting_lines lane = lane.lines.lines
+
+-- whether it has any
+abbrev pub waits : Lane → Bool
+waits lane = not (length (waiting_lines lane) == 0)
 
 -- the texts of its answers to them
 abbrev pub answer_texts : Lane → List (List ℕ)

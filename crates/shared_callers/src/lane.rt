@@ -58,7 +58,7 @@ pub(crate) struct Lane {
 }
 
 impl Lane {
-    ghost use Rattle.shared_callers.specs.OneLane.{waiting_lines, looked_up_lines, LaneAnswers, places_in};
+    ghost use Rattle.shared_callers.specs.OneLane.{waiting_lines, waits, looked_up_lines, LaneAnswers, places_in};
 
     /// A caller with this pass. `number` is that of its first line in the run, and `step` the stride between its lines.
     pub(crate) fn new(pass: Pass, room: LaneRoom, number: u64, step: u64) -> Lane
@@ -92,6 +92,13 @@ impl Lane {
             apart: _,
         } = self;
         pass
+    }
+
+    /// Whether a line waits.
+    pub(crate) fn waits(&self) -> bool
+        ensures { result ≡ waits self.now }
+    {
+        self.lines.len() != 0
     }
 
     /// Answers the lines that wait, in their order, and writes the texts of the answers, in place of those before.

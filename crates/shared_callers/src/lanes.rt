@@ -75,8 +75,8 @@ impl<S: Store> Lanes<S> {
         self.half.deal(line);
     }
 
-    /// Has all callers answer the lines that wait, each its own in their order, and each in a thread of its own. It may
-    /// wait.
+    /// Has all callers answer the lines that wait, each its own in their order, and each that has lines in a thread of
+    /// its own. It may wait.
     ///
     /// The gate is called with each line's number in the run: after its check, and again after its answer.
     pub fn answer<R: Threads + Wait + Sync, G: Gate + Sync>(&mut self, rt: &R, gate: &G)

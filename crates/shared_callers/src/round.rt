@@ -1,5 +1,6 @@
-//! A round: all callers answer the lines that wait, each in a thread of its own.
+//! A round: all callers answer the lines that wait, each that has some in a thread of its own.
 ghost use Rattle.std.specs.Prelude.{◌≡◌, ℕ, ◌+◌, ◌<◌, ◌≤◌, List, [], ◌++◌, length, All, is_err, MatchResult};
+ghost use Rattle.std.specs.List.{list_any};
 ghost use Rattle.std.specs.Thread.{IsSync, IsSend};
 ghost use Rattle.issuer_base.specs.OutsideFaults.{CountsFaults};
 ghost use Rattle.issuer_base.specs.declared.answer.Answer.{Answer};
@@ -12,7 +13,7 @@ ghost use Rattle.shared_laws.specs.Dealing.{HaveTurns};
 ghost use Rattle.shared_callers.specs.Dealt.{HasDealt, DealsRound};
 ghost use Rattle.shared_callers.specs.Halves.{HasWaiting, HasDue, HasSameRooms, HasExchanged};
 ghost use Rattle.shared_callers.specs.Handing.{LinesGoOver, TextsComeBack};
-ghost use Rattle.shared_callers.specs.OneLane.{LanesAnswer, waiting_lines, answer_texts, lane_rooms, passes_of};
+ghost use Rattle.shared_callers.specs.OneLane.{LanesAnswer, waiting_lines, waits, answer_texts, lane_rooms, passes_of};
 ghost use Rattle.shared_callers.specs.Parts.{rooms_of};
 ghost use Rattle.shared_callers.specs.Seated.{AreSeated};
 ghost use Rattle.shared_callers.specs.Turns.{AreDue, IsDue};
@@ -87,8 +88,9 @@ where
     written
 }
 
-/// Has a thread of its own answer for each caller but the last. This thread spawns these threads, then exchanges what
-/// the half has, and then answers for the last caller. So there are as many threads as callers.
+/// Has a thread of its own answer for each caller that has lines but the last such one. This thread spawns these
+/// threads, then exchanges what the half has, and then answers for the last one. So there are as many threads as callers
+/// with lines, and a line that comes alone is answered by the thread that reads.
 #[cycle(round)]
 fn exchange_beside<S, R, G, W>(
     rt: &R,
@@ -113,13 +115,18 @@ where
     ensures block { (block.new.text.items ≡ []) × (block.new.lines ≡ 0) }
     ensures faults { CountsFaults (W.faults out.old) (W.faults out.new) (is_err result) }
 {
-    if lanes.len() == 1 {
+    let (first, others) = lanes.split_at_mut(1);
+    if !any_waits(others) {
         let written = half.exchange(reader, block, out);
-        lanes[0].answer(rt, host, gate);
+        first[0].answer(rt, host, gate);
+        answer_at_once(rt, host, gate, others);
         return written;
     }
-    let (first, others) = lanes.split_at_mut(1);
-    exchange_beside_both(rt, host, gate, half, reader, block, out, first, others)
+    if first[0].waits() {
+        return exchange_beside_both(rt, host, gate, half, reader, block, out, first, others);
+    }
+    first[0].answer(rt, host, gate);
+    exchange_beside(rt, host, gate, half, reader, block, out, others)
 }
 
 /// Has a thread of its own answer for the first caller, while this thread does what is left, as [`exchange_beside`] says.
@@ -168,8 +175,8 @@ where
     written
 }
 
-/// Has all callers answer the lines that wait, each in a thread of its own. This thread spawns one for each of the
-/// others, and answers for the last caller.
+/// Has all callers answer the lines that wait, each that has lines in a thread of its own. This thread spawns one for
+/// each of them but the last, and answers for that one itself.
 #[cycle(lanes)]
 fn answer_at_once<S: Store + Send, R: Threads + Wait + Sync, G: Gate + Sync>(
     rt: &R,
@@ -178,15 +185,18 @@ fn answer_at_once<S: Store + Send, R: Threads + Wait + Sync, G: Gate + Sync>(
     lanes: &mut [Lane],
 )
     requires free { All (λ lane. IsFree host.now lane.pass) lanes.old }
-    requires some { 0 < length lanes.old }
     ensures { LanesAnswer host.now lanes.old lanes.new }
 {
-    if lanes.len() == 1 {
-        lanes[0].answer(rt, host, gate);
+    if lanes.is_empty() {
         return;
     }
     let (first, others) = lanes.split_at_mut(1);
-    answer_beside(rt, host, gate, first, others);
+    if first[0].waits() && any_waits(others) {
+        answer_beside(rt, host, gate, first, others);
+    } else {
+        first[0].answer(rt, host, gate);
+        answer_at_once(rt, host, gate, others);
+    }
 }
 
 /// Has a thread of its own answer for the first caller, while this thread has the others answer.
@@ -216,6 +226,13 @@ fn answer_beside<S: Store + Send, R: Threads + Wait + Sync, G: Gate + Sync>(
         ensures { LanesAnswer host.entry.now others.entry.now others.exit.now }
     { answer_at_once(rt, host, gate, others) };
     thread::join_mut(rt, &mut front, &mut back);
+}
+
+/// Whether a caller has lines that wait.
+fn any_waits(lanes: &[Lane]) -> bool
+    ensures { result ≡ list_any waits lanes.now }
+{
+    lanes.iter().any(|lane| lane.waits())
 }
 
 impl HalfBlock {

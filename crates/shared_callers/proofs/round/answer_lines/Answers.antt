@@ -10,13 +10,6 @@ pub answer_at_once-requires-clause-free : goal.answer_at_once-requires-clause-fr
 answer_at_once-requires-clause-free g c lifetimes outlives =
     free-alike c.args.host.now c.args.lanes.now c.give_lines-given.new.lanes c.give_lines-given.ensures.lanes.0 c.requires.free
 
-pub answer_at_once-requires-clause-some : goal.answer_at_once-requires-clause-some
-answer_at_once-requires-clause-some g c =
-    let half = c.args.half.now in
-    let some : 0 < length half.parts.items = search rules in
-    let long = same-length c.args.lanes.now c.give_lines-given.new.lanes c.give_lines-given.ensures.lanes.0 in
-    omega (arith, some, long, as-many-lanes c.args.lanes.now half.parts.items c.requires.rooms)
-
 pub take_texts-requires-clause-rooms : goal.take_texts-requires-clause-rooms
 take_texts-requires-clause-rooms g c =
     let gave = c.give_lines-given.ensures in
