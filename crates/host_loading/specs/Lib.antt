@@ -4,3 +4,4 @@ pub mod Hosts
 pub mod StoreRoom
 pub mod Loading
 pub mod Slots
+pub mod EmptyLists

@@ -1,5 +1,4 @@
 -- The lemmas of this crate, lowest first.
-pub mod Parts
 pub mod Reading
 pub mod Filed
 pub mod LegalTexts

@@ -5,7 +5,6 @@
 mod block;
 mod export;
 mod filing;
-mod newline;
 mod reader;
 
 pub use export::{ExportFault, Exporter};

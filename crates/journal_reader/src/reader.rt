@@ -1,5 +1,5 @@
 //! A reader of a journal's records, one at a time, through one buffer of fixed size.
-ghost use Rattle.std.specs.Prelude.{◌≡◌, ℕ, ◌+◌, ◌-◌, ◌^◌, ◌<◌, ◌≤◌, Option, List, [], length, take, drop, vec_len, min};
+ghost use Rattle.std.specs.Prelude.{◌≡◌, ℕ, ◌+◌, ◌-◌, ◌^◌, ◌<◌, ◌≤◌, Option, List, [], length, vec_len, min};
 ghost use Rattle.std.specs.Prelude.{IfOk, IfErr, IfSome, OnOk, None, IsErr, is_err, false};
 ghost use Rattle.issuer_base.specs.OutsideFaults.{CountsFaults};
 ghost use Rattle.issuer_base.specs.declared.entry.Entry.{Entry};
@@ -8,10 +8,10 @@ ghost use Rattle.journal_rec.specs.declared.limits.TheConstants.{MOST_RECORD_BYT
 ghost use Rattle.shard_book.specs.LineAhead.{IsLineAhead};
 ghost use Rattle.shard_book.specs.Loads.{IsOnlyRead};
 
-use crate::newline::{first_newline, has_newline};
 use issuer_base::{Entry, NoMemory, Store, StoreFail};
 use journal_rec::{VERSION_LINE, read_entry};
 use journal_store::read_from;
+use shard_book::{first_newline, has_newline};
 use std::alloc::Global;
 
 /// How many bytes of a store are in memory.
@@ -158,9 +158,8 @@ impl RecordReader {
     /// Checks that no newline is after the bytes in memory, which have none and are as many as the store has or the
     /// buffer holds. A line with so many bytes is that of no record.
     fn check_rest<S: Store>(&mut self, store: &mut S) -> Result<Option<Entry>, RecordFault>
-        requires unbroken { IsUnbroken (ahead_of self.old) }
-        requires all { length (ahead_of self.old)
-            ≡ min (vec_len self.old.buffer) (S.size store.old - self.old.taken) }
+        requires ahead { IsUnbroken (ahead_of self.old)
+            × (length (ahead_of self.old) ≡ min (vec_len self.old.buffer) (S.size store.old - self.old.taken)) }
         requires within { self.old.taken ≤ S.size store.old }
         ensures given { (history : List Entry) → HasRead self.old (S.bytes store.old) history
             → IfOk result (Gives self.new (S.bytes store.old) history) }

@@ -1,5 +1,5 @@
 -- Room that is left by calls that add no more than it has.
-use Rattle.std.specs.Prelude.{◌≡◌, ℕ, ◌+◌, ◌≤◌, Bool, true, false, Option, Result, Ok, Err, is_err, IsOkAnd}
+use Rattle.std.specs.Prelude.{◌≡◌, ℕ, ◌+◌, ◌≤◌, Bool, true, false, Option, Result, Ok, Err, is_err, IsErr, IsOkAnd, MatchResult}
 use Rattle.std.proofs.Common.{◌∙◌, arith, refl}
 use Rattle.std.proofs.lemmas.Bool.{false≢true}
 use Rattle.issuer_base.specs.Stores.{HasRoom, WorksWithin}
@@ -25,3 +25,8 @@ works-none size old new stays = record { stays = stays; works = λ has. refl }
 pub isnt-ok : {T E : Type 0} (result : Result T E) (P : T → Type 0) → is_err result ≡ true → IsOkAnd result P → ⊥
 isnt-ok (Ok value) P failed is = false≢true failed
 isnt-ok (Err error) P failed is = is
+
+-- what holds of a result that is an error, whichever
+pub fails-with : {T E : Type 0} (P : T → Type 0) (Q : Type 0) (result : Result T E) → IsErr result → Q → MatchResult result P (λ _. Q)
+fails-with P Q (Ok value) failed holds = absurd (let e : false ≡ true = failed in cc)
+fails-with P Q (Err error) failed holds = holds

@@ -1,9 +1,8 @@
 //! A text of records that is appended to: a record is durable in the store before it counts.
-ghost use Rattle.std.specs.Prelude.{◌≡◌, ◌⊎◌, ◌+◌, ◌^◌, ◌<◌, ◌≤◌, ℕ, List, [], ◌++◌, length, false, IfOk, IfErr, IsErr, IsOkAnd, MatchResult, OnOk, is_err, true};
+ghost use Rattle.std.specs.Prelude.{◌≡◌, ◌⊎◌, ◌+◌, ◌^◌, ◌<◌, ◌≤◌, ℕ, List, [], ◌++◌, length, false, IsErr, IsOkAnd, MatchResult, OnOk, is_err, true};
 ghost use Rattle.issuer_base.specs.OutsideFaults.{CountsFaults};
-ghost use Rattle.issuer_base.specs.Stores.{BothTold, CutsBytes, Disk, HasRoom, LeavesOnly, Passes};
-ghost use Rattle.issuer_base.specs.Tells.{Tells};
-ghost use Rattle.journal_store.specs.Images.{HasSafeText, IsImage, IsCutImage, IsEitherImage};
+ghost use Rattle.issuer_base.specs.Stores.{BothTold, HasRoom, LeavesOnly, Passes};
+ghost use Rattle.journal_store.specs.Images.{HasSafeText, IsEitherImage};
 
 use crate::reading::settle;
 use issuer_base::{Store, StoreFail};
@@ -31,26 +30,17 @@ pub struct Journal<S: Store> {
 
 impl<S: Store> Journal<S> {
     ghost use Rattle.journal_store.specs.Holding.{Holds};
+    ghost use Rattle.journal_store.specs.Opening.{IsNotOpened, IsOpened};
 
     /// The journal of a store whose first `sure` bytes are the text of so many records. The store is truncated to them,
     /// and they are made durable. If the store fails it is returned.
     pub fn open(store: S, sure: u64, records: u64) -> Result<Journal<S>, S>
         requires within { sure ≤ S.size store }
         requires few { records ≤ sure }
-        ensures holds { (text rest : List ℕ) → length text ≡ sure → Tells (S.bytes store) (text ++ rest)
-            → IfOk result (λ journal. Holds journal records text []) }
-        ensures sure { IfOk result (λ journal. journal.sure ≡ sure) }
-        ensures records { IfOk result (λ journal. journal.records ≡ records) }
-        ensures settled { IfOk result (λ journal. journal.in_doubt ≡ false) }
-        ensures opened { IfOk result (λ journal. BothTold (λ old new. LeavesOnly (IsCutImage sure old.now) old new)
-            (S.disk store) (S.disk journal.store)) }
-        ensures kept { IfErr result (λ back. BothTold (CutsBytes sure true) (S.bytes store) (S.bytes back)) }
-        ensures crash { IfErr result (λ back. BothTold (λ old new. LeavesOnly (IsCutImage sure old.now) old new)
-            (S.disk store) (S.disk back)) }
+        ensures opened { MatchResult result (IsOpened store sure records)
+            (IsNotOpened S.bytes S.disk S.faults store sure) }
         ensures room { (spare : ℕ) → HasRoom spare (S.size store) (S.room store)
             → IsOkAnd result (λ journal. HasRoom spare (S.size journal.store) (S.room journal.store)) }
-        ensures count { IfOk result (λ journal. CountsFaults (S.faults store) (S.faults journal.store) false) }
-        ensures failed { IfErr result (λ back. CountsFaults (S.faults store) (S.faults back) true) }
     {
         let mut store = store;
         if settle(&mut store, sure).is_err() {
@@ -132,9 +122,8 @@ impl<S: Store> Journal<S> {
         requires some { 0 < length piece.now }
         requires cleared { self.old.in_doubt ≡ false }
         ensures put { (count : ℕ) (text : List ℕ) → Holds self.old count text []
-            → IfOk result (λ place. (place ≡ count) × Holds self.new (count + 1) (text ++ piece.now) []) }
-        ensures failed { (count : ℕ) (text : List ℕ) → Holds self.old count text [] → IsErr result
-            → Holds self.new count text piece.now }
+            → MatchResult result (λ place. (place ≡ count) × Holds self.new (count + 1) (text ++ piece.now) [])
+            (λ _. Holds self.new count text piece.now) }
         ensures settled { OnOk result (self.new.in_doubt ≡ false) }
         ensures passes { (count : ℕ) (text : List ℕ) → Holds self.old count text []
             → BothTold (Passes (HasSafeText text piece.now)) (S.disk self.old.store) (S.disk self.new.store) }

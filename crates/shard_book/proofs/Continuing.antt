@@ -1,5 +1,5 @@
 -- A journal that is continued after the old one: what the rows stand for then, and what is left where that fails.
-use Rattle.std.proofs.Common.{◌≡◌, ◌≤◌, ◌+◌, ℕ, List, [], ◌++◌, length, take, refl, sym, ap, subst, ◌∙◌, inl, inr, ⊎_elim, arith, Option, None, Some, IfSome, append-nil}
+use Rattle.std.proofs.Common.{◌≡◌, ◌≤◌, ◌+◌, ℕ, List, [], ◌++◌, length, take, refl, sym, ap, subst, ◌∙◌, inl, inr, ⊎_elim, arith, Option, None, Some, IfSome, Result, Ok, Err, append-nil}
 use Rattle.std.specs.Option.{IsSomeAnd}
 use Rattle.std.proofs.lemmas.List.{take_all, take_at}
 use Rattle.std.proofs.lemmas.List.Elements.{All-nil}
@@ -15,9 +15,10 @@ use Rattle.journal_store.specs.Images.{OnlyReads}
 use Rattle.shard_book.specs.declared.replay.LoadFault.TheVariants.{StoreFault}
 use Rattle.shard_book.specs.declared.replay.LoadFault.{LoadFault}
 use Rattle.shard_book.specs.declared.replay.Taken.{Taken}
+use Rattle.shard_book.specs.declared.replay.TakenOver.{TakenOver}
 use Rattle.shard_book.specs.declared.replay.Version.TheVariants.{One, Two}
 use Rattle.shard_book.specs.Loading.{ReadsFront, ReadsText, StopsText}
-use Rattle.shard_book.specs.Migrating.{Agree, Continues, IsTextAfter, Moves, PassesMoving, StopsShort}
+use Rattle.shard_book.specs.Migrating.{Agree, Continues, EndsReading, IsTextAfter, Moves, PassesMoving, StopsShort}
 use Rattle.shard_book.specs.ShardRows.{ShardRows, RowsStandFor}
 use Rattle.shard_book.specs.Shards.{IsFailedImage, LeavesBytes}
 use Rattle.shard_book.specs.Versions.{HasText, IsPartOf}
@@ -93,6 +94,15 @@ stops-from issuer shard other old_bytes old_now bytes mid now disk disk_mid disk
       subst (λ (old_bytes : Option (List ℕ)). BothTold (λ before after. LeavesOnly (IsFailedImage old_bytes before.now) before after) disk disk_now) old_is
       (crash-then old_now disk disk_mid disk_now reads its.leaves);
 }
+
+-- however it ended
+pub ends-from : (issuer : Setup) (shard other : ℕ) (old_bytes old_now bytes mid now : Option (List ℕ)) (disk disk_mid disk_now : Option Disk)
+    (result : Result TakenOver LoadFault) → other ≡ shard → old_now ≡ old_bytes → mid ≡ bytes → BothTold OnlyReads disk disk_mid
+    → EndsReading issuer other old_now mid now disk_mid disk_now result → EndsReading issuer shard old_bytes bytes now disk disk_now result
+ends-from issuer shard other old_bytes old_now bytes mid now disk disk_mid disk_now (Ok over) shard_is old_is bytes_are reads its =
+    continues-from issuer shard other old_bytes old_now bytes mid now disk disk_mid disk_now over.rows over.taken shard_is old_is bytes_are reads its
+ends-from issuer shard other old_bytes old_now bytes mid now disk disk_mid disk_now (Err fault) shard_is old_is bytes_are reads its =
+    stops-from issuer shard other old_bytes old_now bytes mid now disk disk_mid disk_now fault shard_is old_is bytes_are reads its
 
 -- ---- the store is continued
 

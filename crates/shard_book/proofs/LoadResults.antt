@@ -14,6 +14,7 @@ use Rattle.journal_rec.specs.Record.{IsRecord}
 use Rattle.journal_rec.specs.RecordText.{journal_text}
 use Rattle.journal_store.specs.Holding.{Holds}
 use Rattle.journal_store.specs.Images.{IsCutImage}
+use Rattle.journal_store.specs.Opening.{IsNotOpened}
 use Rattle.shard_book.specs.declared.replay.LoadFault.{LoadFault}
 use Rattle.shard_book.specs.declared.replay.LoadFault.TheVariants.{StoreFault}
 use Rattle.shard_book.specs.declared.replay.Taken.{Taken}
@@ -22,11 +23,11 @@ use Rattle.shard_book.specs.declared.shard.LoadBack.{LoadBack}
 use Rattle.shard_book.specs.declared.shard.Shard.{Shard}
 use Rattle.shard_book.specs.Histories.{GoesOn}
 use Rattle.shard_book.specs.Loading.{IsWithin, StopsText, is_store_failure}
-use Rattle.shard_book.specs.Loads.{CountsBoth, HaveRoom, IsLoadedFrom, IsNotLoaded, loaded_size}
+use Rattle.shard_book.specs.Loads.{CountsBoth, HaveRoom, IsLoadedFrom, IsNotLoaded, IsOpenedFrom, loaded_size}
 use Rattle.shard_book.specs.Migrating.{Continues, Moves}
 use Rattle.shard_book.specs.Room.{LoadsWithin}
 use Rattle.shard_book.specs.ShardRows.{ShardRows, AreRowsOf, RowsStandFor}
-use Rattle.shard_book.specs.Shards.{disk_in, faults_in, places_in, reported_in, IsUndoubted, IsJournalOf, IsLoaded}
+use Rattle.shard_book.specs.Shards.{disk_in, faults_in, IsJournalOf, IsLoaded}
 use Rattle.shard_book.specs.Shards.{IsCutToText, IsMigrated, IsTakenFor, LeavesBytes}
 use Rattle.shard_book.specs.Versions.{HasText, IsPartOf}
 use Rattle.shard_book.proofs.BothStores.{counts-still}
@@ -109,6 +110,17 @@ pub match-ends : {A B : Type 0} (P : A → Type 0) (Q : B → Type 0) (result : 
 match-ends P Q (Ok value) holds fails = holds
 match-ends P Q (Err fault) holds fails = fails
 
+pub match-weaker : {A B : Type 0} (P P' : A → Type 0) (Q Q' : B → Type 0) (result : Result A B) → ((value : A) → P value → P' value)
+    → ((fault : B) → Q fault → Q' fault) → MatchResult result P Q → MatchResult result P' Q'
+match-weaker P P' Q Q' (Ok value) weaker other holds = weaker value holds
+match-weaker P P' Q Q' (Err fault) weaker other fails = other fault fails
+
+-- how the opening of a journal ends
+abbrev pub EndsOpening : {S : Type 0} → (G : Ghosts S) → S → ShardRows → Taken → Result (Shard S G) (LoadBack S) → Type 0
+EndsOpening G store rows taken result =
+    MatchResult result (IsOpenedFrom store rows taken)
+    (λ back. (back.fault ≡ StoreFault) × IsNotOpened G.bytes G.disk G.faults store taken.bytes back.store)
+
 module _ {S : Type 0} (G : Ghosts S) where
   module _ (issuer : Setup) (number : ℕ) (old store old_then mid : S) (rows : ShardRows) (taken : Taken)
       (its : Continues issuer number (G.bytes old) (G.bytes store) (G.bytes mid) (G.disk store) (G.disk mid) rows taken)
@@ -145,12 +157,10 @@ module _ {S : Type 0} (G : Ghosts S) where
         settled = loaded-holds;
       }
 
-    pub loaded-all : (result : Result (Shard S G) (LoadBack S)) → rows.shard ≡ number → IfOk result (λ loaded. loaded.rows ≡ rows)
-        → ((text rest : List ℕ) → length text ≡ taken.bytes → Tells (G.bytes mid) (text ++ rest)
-        → IfOk result (λ loaded. Holds loaded.journal taken.records text []))
+    pub loaded-all : (result : Result (Shard S G) (LoadBack S)) → rows.shard ≡ number → EndsOpening G mid rows taken result
         → IfOk result (IsLoaded issuer number (G.bytes old) (G.bytes store))
-    loaded-all (Ok loaded) shard_is rows_are holds = loaded-is loaded shard_is rows_are holds
-    loaded-all (Err back) shard_is rows_are holds = tt
+    loaded-all (Ok loaded) shard_is ends = loaded-is loaded shard_is ends.rows_are ends.opened.holds
+    loaded-all (Err back) shard_is ends = tt
 
     -- what holds of the shard that was opened
     module _ (counts : CountsBoth (G.faults old) (G.faults old_then) (G.faults store) (G.faults mid) false)
@@ -163,31 +173,25 @@ module _ {S : Type 0} (G : Ghosts S) where
       }
 
       pub loads-from : (result : Result (Shard S G) (LoadBack S)) → AreRowsOf issuer rows → rows.shard ≡ number → IsWithin taken (G.size mid)
-          → IfOk result (λ loaded. loaded.rows ≡ rows)
-          → ((text rest : List ℕ) → length text ≡ taken.bytes → Tells (G.bytes mid) (text ++ rest)
-          → IfOk result (λ loaded. Holds loaded.journal taken.records text []))
-          → IfOk result (λ loaded. places_in loaded ≡ taken.records)
-          → IfOk result (λ loaded. reported_in loaded ≡ 0)
-          → IfOk result IsUndoubted
-          → IfOk result (λ loaded. BothTold (λ old new. LeavesOnly (IsCutImage taken.bytes old.now) old new) (G.disk mid) (disk_in loaded))
-          → IfOk result (λ loaded. CountsFaults (G.faults mid) (faults_in loaded) false)
+          → EndsOpening G mid rows taken result
           → LoadsWithin (G.size mid) (G.room mid) result
           → IfOk result (IsLoadedFrom issuer number old old_then store)
       unfolding loaded-is
-      loads-from (Err back) rows_of shard_is within rows_are holds places untold undoubted opened count room = tt
-      loads-from (Ok loaded) rows_of shard_is within rows_are holds places untold undoubted opened count room =
+      loads-from (Err back) rows_of shard_is within ends room = tt
+      loads-from (Ok loaded) rows_of shard_is within ends room =
           let still = counts-still (G.faults old) (G.faults old_then) (G.faults store) (G.faults mid) counts in
+          let places = ends.opened.records_are in
           record {
-            loaded = loaded-is loaded shard_is rows_are holds;
-            under = subst (AreRowsOf issuer) (sym rows_are) rows_of;
+            loaded = loaded-is loaded shard_is ends.rows_are ends.opened.holds;
+            under = subst (AreRowsOf issuer) (sym ends.rows_are) rows_of;
             few = let few = within.few in let inside = within.within in omega (arith, places, few, inside, grown);
-            untold = untold;
-            undoubted = undoubted;
+            untold = ends.untold;
+            undoubted = λ none. ends.opened.settled;
             leaves =
                 crash-opened its.old its.reads.history its.old_records its.reads.records (G.bytes old) taken.bytes its.reads.sure_is (G.bytes mid)
-                (G.disk store) (G.disk mid) (disk_in loaded) told its.reads.text_is its.passes opened;
+                (G.disk store) (G.disk mid) (disk_in loaded) told its.reads.text_is its.passes ends.opened.leaves;
             old_counts = still.0;
-            counts = CountsFaults-then (G.faults store) (G.faults mid) (faults_in loaded) false false still.1 count;
+            counts = CountsFaults-then (G.faults store) (G.faults mid) (faults_in loaded) false false still.1 ends.opened.counts;
             room = λ spare has. room spare (has-mid spare has);
           }
 
@@ -230,21 +234,19 @@ module _ {S : Type 0} (G : Ghosts S) where
             untouched = λ memory. absurd (cc);
           }
 
-      pub fails-from : (result : Result (Shard S G) (LoadBack S)) → IfErr result (λ back. back.fault ≡ StoreFault)
-          → IfErr result (λ back. BothTold (CutsBytes taken.bytes true) (G.bytes mid) (G.bytes back.store))
-          → IfErr result (λ back. BothTold (λ old new. LeavesOnly (IsCutImage taken.bytes old.now) old new) (G.disk mid) (G.disk back.store))
-          → IfErr result (λ back. CountsFaults (G.faults mid) (G.faults back.store) true)
+      pub fails-from : (result : Result (Shard S G) (LoadBack S)) → EndsOpening G mid rows taken result
           → IfErr result (λ back. IsNotLoaded G.size G.bytes G.disk G.faults issuer number old store back.fault old_then back.store)
-      fails-from (Ok loaded) fault cuts crash count = tt
-      fails-from (Err back) fault cuts crash count =
-          subst (λ (fault : LoadFault). IsNotLoaded G.size G.bytes G.disk G.faults issuer number old store fault old_then back.store) (sym fault)
-          (fails-with back.store cuts crash count)
+      fails-from (Ok loaded) ends = tt
+      fails-from (Err back) ends =
+          subst (λ (fault : LoadFault). IsNotLoaded G.size G.bytes G.disk G.faults issuer number old store fault old_then back.store) (sym ends.0)
+          (fails-with back.store ends.1.kept ends.1.leaves ends.1.counts)
 
 -- nothing of a text stops the opening of its journal
-pub opens-stopped : {S : Type 0} {G : Ghosts S} (issuer : Setup) (number : ℕ) (old_bytes bytes : Option (List ℕ)) (result : Result (Shard S G) (LoadBack S))
-    → IfErr result (λ back. back.fault ≡ StoreFault) → IfErr result (λ back. StopsText issuer number old_bytes bytes back.fault)
-opens-stopped issuer number old_bytes bytes (Ok loaded) fault = tt
-opens-stopped issuer number old_bytes bytes (Err back) fault = subst (StopsText issuer number old_bytes bytes) (sym fault) tt
+pub opens-stopped : {S : Type 0} (G : Ghosts S) (issuer : Setup) (number : ℕ) (old_bytes bytes : Option (List ℕ)) (mid : S) (rows : ShardRows) (taken : Taken)
+    (result : Result (Shard S G) (LoadBack S)) → EndsOpening G mid rows taken result
+    → IfErr result (λ back. StopsText issuer number old_bytes bytes back.fault)
+opens-stopped G issuer number old_bytes bytes mid rows taken (Ok loaded) ends = tt
+opens-stopped G issuer number old_bytes bytes mid rows taken (Err back) ends = subst (StopsText issuer number old_bytes bytes) (sym ends.0) tt
 
 -- room for more is room for what is there
 pub room-there : (spare size : ℕ) (room : Option ℕ) → HasRoom spare size room → HasRoom 0 size room

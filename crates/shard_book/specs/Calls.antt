@@ -1,20 +1,27 @@
 -- What a call of a shard answers, and what it leaves.
-use Rattle.std.specs.Prelude.{◌≡◌, ℕ, Bool, false, List, Ok}
+use Rattle.std.specs.Prelude.{◌≡◌, ◌⊎◌, ℕ, Bool, false, List, [], ◌∷◌, ◌++◌, length, Result, Ok, MatchResult}
 use Rattle.issuer_base.specs.OutsideFaults.{CountsFaults}
 use Rattle.issuer_base.specs.Stores.{BothTold, LeavesOnly}
 use Rattle.issuer_base.specs.declared.answer.Answer.{Answer}
+use Rattle.issuer_base.specs.declared.answer.Reply.{Reply}
 use Rattle.issuer_base.specs.declared.entry.Entry.{Entry}
+use Rattle.issuer_base.specs.declared.entry.Entry.TheVariants.{Decided}
 use Rattle.issuer_base.specs.declared.outside.store.Store.{Ghosts}
 use Rattle.card_history.specs.declared.decision.Asked.TheVariants.{Decide}
+use Rattle.card_history.specs.LegalRecords.{IsLegal}
+use Rattle.issuer_setup.specs.declared.card.CardInfo.{CardInfo}
 use Rattle.issuer_setup.specs.IssuerSetup.{Setup}
+use Rattle.journal_rec.specs.RecordText.{text_of}
 use Rattle.line_checks.specs.declared.checked.CheckedOrder.{CheckedOrder}
 use Rattle.line_checks.specs.declared.checked.CheckedRequest.{CheckedRequest}
 use Rattle.line_checks.specs.AtHand.{IsOrderAtHand, IsRequestAtHand, number_of_order}
 use Rattle.line_checks.specs.Reading.{checked}
+use Rattle.row_core.specs.Plan.{IsNext}
 use Rattle.shard_book.specs.declared.shard.Shard.{Shard}
 use Rattle.shard_book.specs.Answering.{is_store_fault, tells_change, reported_after}
 use Rattle.shard_book.specs.Grounds.{grounds_now, IsImageOf}
-use Rattle.shard_book.specs.Shards.{number_in, IsUnder, HasCard, disk_in, faults_in, reported_in, IsUndoubted, StandsFor}
+use Rattle.shard_book.specs.Shards.{number_in, IsUnder, HasCard, disk_in, faults_in, reported_in, HasTail, IsUndoubted, StandsFor}
+use Rattle.shard_book.specs.Steps.{IsCardOf}
 
 module _ {S : Type 0} {G : Ghosts S} where
   -- a checked request for a shard of this issuer
@@ -47,6 +54,34 @@ module _ {S : Type 0} {G : Ghosts S} where
   LeavesImages issuer old new =
       (history : List Entry) → StandsFor issuer old history
       → BothTold (LeavesOnly (IsImageOf (grounds_now issuer) (number_in old) history)) (disk_in old) (disk_in new)
+
+  -- and of this history, for which the shard stands
+  abbrev pub LeavesImagesOf : Setup → List Entry → Shard S G → Shard S G → Type 0
+  LeavesImagesOf issuer history old new =
+      BothTold (LeavesOnly (IsImageOf (grounds_now issuer) (number_in old) history)) (disk_in old) (disk_in new)
+
+  -- what a call leaves that appends a record: the record, whose index it returns; or if the store failed, in doubt is
+  -- this very record or what was in doubt before
+  abbrev pub LeavesPut : {E : Type 0} → List Entry → List ℕ → Entry → Result ℕ E → Shard S G → Type 0
+  LeavesPut history tail entry result new =
+      MatchResult result (λ place. (place ≡ length history) × HasTail new (history ++ entry ∷ []) [])
+      (λ _. HasTail new history tail ⊎ HasTail new history (text_of entry))
+
+  -- how such a call is counted, by whether the store failed; afterwards nothing is in doubt unless a call reported it
+  pub record CountsPut (old : Shard S G) (failed : Bool) (new : Shard S G) : Type 0 where
+    pub counts : CountsFaults (faults_in old) (faults_in new) failed
+    pub told_is : reported_in new ≡ reported_after (reported_in old) failed
+    pub undoubted : IsUndoubted new
+
+  -- after this history the shard may record this decision of a checked request: it is the next one of its card, and a
+  -- valid successor
+  pub record MayRecord (issuer : Setup) (shard : Shard S G) (found : CheckedRequest) (reply : Reply)
+      (history : List Entry) : Type 0 where
+    pub stands : StandsFor issuer shard history
+    pub card : CardInfo
+    pub card_is : IsCardOf issuer found.card card
+    pub next : IsNext card history (record { request = found.request; reply = reply; place = length history })
+    pub legal : IsLegal (grounds_now issuer) (number_in shard) history (Decided found.request reply)
 
   -- what every call keeps of a shard, by whether it reports that the store failed
   pub record KeepsCall (issuer : Setup) (old : Shard S G) (failed : Bool) (new : Shard S G) : Type 0 where

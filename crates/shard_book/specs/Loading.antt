@@ -1,5 +1,5 @@
 -- How the text of a journal is parsed: its records up to the first bad line, and the remainder.
-use Rattle.std.specs.Prelude.{◌≡◌, ◌≢◌, ◌⊎◌, ◌≤◌, ℕ, ◌+◌, ◌==◌, if◌then◌else◌, List, [], ◌∷◌, ◌++◌, length, take, Bool, true, false, Option, Some, IfSome, IsSomeAnd}
+use Rattle.std.specs.Prelude.{◌≡◌, ◌≢◌, ◌⊎◌, ◌≤◌, ℕ, ◌+◌, ◌==◌, if◌then◌else◌, List, [], ◌∷◌, ◌++◌, length, take, drop, Bool, true, false, Option, Some, IfSome, IsSomeAnd}
 use Rattle.std.specs.Prelude.{Result, Err, All}
 use Rattle.issuer_base.specs.declared.entry.Entry.{Entry}
 use Rattle.card_history.specs.LegalRecords.{IsLegal, IsLegalHistory}
@@ -96,6 +96,10 @@ pub record ReadsText (version : Version) (issuer : Setup) (shard : ℕ) (first :
 pub record IsWithin (taken : Taken) (size : ℕ) : Type 0 where
   pub few : taken.records + taken.records ≤ taken.bytes
   pub within : taken.bytes ≤ size
+
+-- if the store's bytes are observable, no newline is in so many of them from an offset on
+abbrev pub IsUnbrokenIn : ℕ → ℕ → Option (List ℕ) → Type 0
+IsUnbrokenIn count from bytes = IfSome bytes (λ text. IsUnbroken (take count (drop from text)))
 
 -- the fault isn't that of a text
 abbrev pub IsOutside : LoadFault → Type 0

@@ -1,16 +1,20 @@
 -- What loading a shard makes of its stores: the old one, of version 1, and the journal's own.
-use Rattle.std.specs.Prelude.{◌≡◌, ℕ, ◌+◌, ◌≤◌, max, Bool, ◌||◌, false, List, length, Option}
+use Rattle.std.specs.Prelude.{◌≡◌, ℕ, ◌+◌, ◌≤◌, max, Bool, ◌||◌, false, List, length, Option, Result, IfOk, IfErr, MatchResult}
 use Rattle.issuer_base.specs.OutsideFaults.{CountsFaults}
 use Rattle.issuer_base.specs.Stores.{BothTold, Disk, HasRoom, LeavesOnly}
 use Rattle.issuer_base.specs.declared.outside.store.Store.{Ghosts}
 use Rattle.issuer_setup.specs.IssuerSetup.{Setup}
 use Rattle.journal_rec.specs.RecordText.{version_line}
 use Rattle.journal_store.specs.Images.{OnlyReads}
+use Rattle.journal_store.specs.Opening.{IsOpened}
 use Rattle.shard_book.specs.declared.replay.LoadFault.{LoadFault}
 use Rattle.shard_book.specs.declared.replay.LoadFault.TheVariants.{NoMemory}
+use Rattle.shard_book.specs.declared.replay.Taken.{Taken}
+use Rattle.shard_book.specs.declared.shard.LoadBack.{LoadBack}
 use Rattle.shard_book.specs.declared.shard.Shard.{Shard}
-use Rattle.shard_book.specs.Loading.{StopsText, is_store_failure}
+use Rattle.shard_book.specs.Loading.{IsOutside, StopsText, is_by_store, is_store_failure}
 use Rattle.shard_book.specs.Room.{Spares}
+use Rattle.shard_book.specs.ShardRows.{ShardRows}
 use Rattle.shard_book.specs.Shards.{IsUnder, disk_in, faults_in, places_in, reported_in}
 use Rattle.shard_book.specs.Shards.{IsUndoubted, IsLoaded, IsLoadImage, IsFailedImage, LeavesBytes, LeavesDisk}
 
@@ -54,6 +58,20 @@ module _ {S : Type 0} {G : Ghosts S} where
     -- room that the store had remains
     pub room : (spare : ℕ) → HaveRoom spare (G.size old) (G.room old) (G.size store) (G.room store) → Spares spare shard
 
+  -- the load gives a shard of which this is true; only memory or the stores themselves can stop it
+  abbrev pub LoadsAs : (Shard S G → Type 0) → Result (Shard S G) (LoadBack S) → Type 0
+  LoadsAs Gives result = MatchResult result Gives (λ back. IsOutside back.fault)
+
+  -- no store's failure stops it
+  abbrev pub StoresWork : Result (Shard S G) (LoadBack S) → Type 0
+  StoresWork result = IfErr result (λ back. is_store_failure back.fault ≡ false)
+
+  -- the shard of these rows over a store whose first bytes are the text of the records that were replayed
+  pub record IsOpenedFrom (store : S) (rows : ShardRows) (taken : Taken) (shard : Shard S G) : Type 0 where
+    pub rows_are : shard.rows ≡ rows
+    pub opened : IsOpened store taken.bytes taken.records shard.journal
+    pub untold : reported_in shard ≡ 0
+
 -- by what is observable of stores: their sizes, their bytes, their disks, their room and their fault counts
 module _ {S : Type 0} (size : S → ℕ) (bytes : S → Option (List ℕ)) (disk : S → Option Disk) (room : S → Option ℕ) where
   -- the store was only read: nothing but its fault count and what it observed of reads may have changed
@@ -62,6 +80,36 @@ module _ {S : Type 0} (size : S → ℕ) (bytes : S → Option (List ℕ)) (disk
     pub bytes_are : bytes new ≡ bytes old
     pub disk_is : BothTold OnlyReads (disk old) (disk new)
     pub room_is : room new ≡ room old
+
+  -- by their fault counts too
+  module _ (faults : S → ℕ) where
+    -- calls that only read a store, and whether one failed: none does where the store works at its size
+    pub record Reads (failed : Bool) (old new : S) : Type 0 where
+      pub only : IsOnlyRead old new
+      pub works : HasRoom 0 (size old) (room old) → failed ≡ false
+      pub counts : CountsFaults (faults old) (faults new) failed
+
+    -- calls that only read two stores
+    pub record ReadsBoth (failed : Bool) (old old_then store store_then : S) : Type 0 where
+      pub old_read : IsOnlyRead old old_then
+      pub read : IsOnlyRead store store_then
+      pub works : HasRoom 0 (size old) (room old) → HasRoom 0 (size store) (room store) → failed ≡ false
+      pub counts : CountsBoth (faults old) (faults old_then) (faults store) (faults store_then) failed
+
+    -- calls that only read the old store, and append to the other until it has this size
+    pub record MovesText (most : ℕ) (failed : Bool) (old old_then store store_then : S) : Type 0 where
+      pub old_read : IsOnlyRead old old_then
+      pub works : HasRoom 0 (size old) (room old) → HasRoom 0 most (room store) → failed ≡ false
+      pub room_is : room store_then ≡ room store
+      pub counts : CountsBoth (faults old) (faults old_then) (faults store) (faults store_then) failed
+
+    -- what a load does to both stores before it opens the journal, by its result
+    pub record TakesStores {X : Type 0} (result : Result X LoadFault) (old old_then store store_then : S) : Type 0 where
+      pub moves :
+          MovesText (loaded_size (size old) (size store)) (is_by_store result) old old_then store store_then
+      pub grown : IfOk result (λ _. size store_then ≤ loaded_size (size old) (size store))
+      -- if neither store failed, the store has the size that it had
+      pub size_is : IfErr result (λ fault. is_store_failure fault ≡ false → size store_then ≡ size store)
 
 module _ {S : Type 0} (size : S → ℕ) (bytes : S → Option (List ℕ)) (disk : S → Option Disk) (faults : S → ℕ) where
   -- the shard with this number can't be loaded from the old store and the store for this reason, and these are the two

@@ -1,11 +1,11 @@
 //! Reads the records of a journal's next lines ahead, so that the cryptograms of their requests are checked together.
-ghost use Rattle.std.specs.Prelude.{◌≡◌, ◌≤◌, ◌<◌, ℕ, List, [], ◌∷◌, ◌++◌, length, take, drop, IfOk};
+ghost use Rattle.std.specs.Prelude.{◌≡◌, ◌≤◌, ◌<◌, ℕ, [], ◌∷◌, ◌++◌, length, take, drop};
 ghost use Rattle.issuer_base.specs.declared.entry.Entry.{Entry};
 ghost use Rattle.line_checks.specs.declared.lines_ahead.TheConstants.{MOST_AHEAD};
 ghost use Rattle.shard_book.specs.LineAhead.{IsLineAhead};
 ghost use Rattle.shard_book.specs.ReadAhead.{IsLookedUp, AreLookedUp, AreNext, IsNoRecord};
 
-use crate::replay::next_newline;
+use crate::newline::next_newline;
 use issuer_base::{Entry, NoMemory, Refusal};
 use issuer_setup::Issuer;
 use journal_rec::read_entry;

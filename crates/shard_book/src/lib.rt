@@ -5,12 +5,14 @@ mod adopting;
 mod ahead;
 mod loading;
 mod migrating;
+mod newline;
 mod reading;
 mod replay;
 mod rows;
 mod shard;
 mod taking;
 
+pub use newline::{first_newline, has_newline};
 pub use replay::{LoadFault, Version};
 pub use shard::{LoadBack, Shard};
 pub use taking::TakeFault;

@@ -1,13 +1,10 @@
 //! Loads the rows of a shard from its old store and its store.
-ghost use Rattle.std.specs.Prelude.{◌≡◌, ◌≢◌, ◌<◌, ◌≤◌, [], length, false, IfOk, IfErr, IfSome};
-ghost use Rattle.issuer_base.specs.Stores.{HasRoom};
+ghost use Rattle.std.specs.Prelude.{◌≡◌, ◌≢◌, ◌<◌, ◌≤◌, [], length, IfOk, IfErr};
 ghost use Rattle.issuer_base.specs.declared.limits.TheConstants.{MAX_STORE_BYTES};
-ghost use Rattle.journal_rec.specs.RecordText.{journal_text};
 ghost use Rattle.journal_rec.specs.declared.limits.TheConstants.{MOST_RECORD_BYTES};
-ghost use Rattle.shard_book.specs.declared.replay.Version.TheVariants.{One};
-ghost use Rattle.shard_book.specs.Loading.{IsWithin, ReadsText, is_by_store, is_store_failure};
-ghost use Rattle.shard_book.specs.Loads.{CountsBoth, IsOnlyRead, loaded_size};
-ghost use Rattle.shard_book.specs.Migrating.{Agree, Continues, StopsShort};
+ghost use Rattle.shard_book.specs.Loading.{IsWithin};
+ghost use Rattle.shard_book.specs.Loads.{TakesStores};
+ghost use Rattle.shard_book.specs.Migrating.{EndsReading, HasReadOld};
 ghost use Rattle.shard_book.specs.ShardRows.{AreRowsOf, RowsStandFor};
 
 use crate::ahead::Ahead;
@@ -36,21 +33,11 @@ pub(crate) fn take_over<S: Store>(
     shard: u8,
 ) -> Result<TakenOver, LoadFault>
     requires { shard < issuer.now.shards }
-    ensures taken { IfOk result (λ over. Continues issuer.now shard (S.bytes old.old) (S.bytes store.old)
-        (S.bytes store.new) (S.disk store.old) (S.disk store.new) over.rows over.taken) }
+    ensures ends { EndsReading issuer.now shard (S.bytes old.old) (S.bytes store.old) (S.bytes store.new)
+        (S.disk store.old) (S.disk store.new) result }
     ensures rows { IfOk result (λ over. AreRowsOf issuer.now over.rows × (over.rows.shard ≡ shard)) }
     ensures within { IfOk result (λ over. IsWithin over.taken (S.size store.new)) }
-    ensures stopped { IfErr result (StopsShort issuer.now shard (S.bytes old.old) (S.bytes store.old)
-        (S.bytes store.new) (S.disk store.old) (S.disk store.new)) }
-    ensures size { IfOk result (λ _. S.size store.new ≤ loaded_size (S.size old.old) (S.size store.old)) }
-    ensures same_size { IfErr result
-        (λ fault. is_store_failure fault ≡ false → S.size store.new ≡ S.size store.old) }
-    ensures old { IsOnlyRead S.size S.bytes S.disk S.room old.old old.new }
-    ensures works { HasRoom 0 (S.size old.old) (S.room old.old)
-        → HasRoom 0 (loaded_size (S.size old.old) (S.size store.old)) (S.room store.old) → is_by_store result ≡ false }
-    ensures room { S.room store.new ≡ S.room store.old }
-    ensures count { CountsBoth (S.faults old.old) (S.faults old.new) (S.faults store.old) (S.faults store.new)
-        (is_by_store result) }
+    ensures stores { TakesStores S.size S.bytes S.disk S.room S.faults result old.old old.new store.old store.new }
     ensures untouched { IfErr result
         (λ fault. fault ≡ LoadFault.NoMemory → (old.new ≡ old.old) × (store.new ≡ store.old)) }
 {
@@ -88,23 +75,12 @@ fn take_both<S: Store>(
 ) -> Result<TakenOver, LoadFault>
     requires rows { RowsStandFor issuer.now rows [] }
     requires few { S.size old.old ≤ MAX_STORE_BYTES }
-    requires ours { MOST_RECORD_BYTES ≤ length ours.old }
-    requires theirs { MOST_RECORD_BYTES ≤ length theirs.old }
-    ensures taken { IfOk result (λ over. Continues issuer.now rows.shard (S.bytes old.old) (S.bytes store.old)
-        (S.bytes store.new) (S.disk store.old) (S.disk store.new) over.rows over.taken) }
+    requires room { (MOST_RECORD_BYTES ≤ length ours.old) × (MOST_RECORD_BYTES ≤ length theirs.old) }
+    ensures ends { EndsReading issuer.now rows.shard (S.bytes old.old) (S.bytes store.old) (S.bytes store.new)
+        (S.disk store.old) (S.disk store.new) result }
     ensures rows { IfOk result (λ over. AreRowsOf issuer.now over.rows × (over.rows.shard ≡ rows.shard)) }
     ensures within { IfOk result (λ over. IsWithin over.taken (S.size store.new)) }
-    ensures stopped { IfErr result (StopsShort issuer.now rows.shard (S.bytes old.old) (S.bytes store.old)
-        (S.bytes store.new) (S.disk store.old) (S.disk store.new)) }
-    ensures size { IfOk result (λ _. S.size store.new ≤ loaded_size (S.size old.old) (S.size store.old)) }
-    ensures same_size { IfErr result
-        (λ fault. is_store_failure fault ≡ false → S.size store.new ≡ S.size store.old) }
-    ensures old { IsOnlyRead S.size S.bytes S.disk S.room old.old old.new }
-    ensures works { HasRoom 0 (S.size old.old) (S.room old.old)
-        → HasRoom 0 (loaded_size (S.size old.old) (S.size store.old)) (S.room store.old) → is_by_store result ≡ false }
-    ensures room { S.room store.new ≡ S.room store.old }
-    ensures count { CountsBoth (S.faults old.old) (S.faults old.new) (S.faults store.old) (S.faults store.new)
-        (is_by_store result) }
+    ensures stores { TakesStores S.size S.bytes S.disk S.room S.faults result old.old old.new store.old store.new }
     ensures memory { IfErr result (λ fault. fault ≢ LoadFault.NoMemory) }
 {
     let from = Taken {
@@ -141,28 +117,14 @@ fn continue_journal<S: Store>(
     ahead: &mut Ahead,
 ) -> Result<TakenOver, LoadFault>
     requires rows { AreRowsOf issuer.now rows }
-    requires within { IsWithin known (S.size old.old) }
-    requires few { S.size old.old ≤ MAX_STORE_BYTES }
+    requires known { IsWithin known (S.size old.old) × (S.size old.old ≤ MAX_STORE_BYTES) }
     requires room { MOST_RECORD_BYTES ≤ length buffer.old }
-    ensures taken { (reads : ReadsText One issuer.now rows.shard [] (S.bytes old.old) rows known)
-        → IfSome (S.bytes store.old) (Agree (journal_text reads.history))
-        → IfOk result (λ over. Continues issuer.now rows.shard (S.bytes old.old) (S.bytes store.old)
-        (S.bytes store.new) (S.disk store.old) (S.disk store.new) over.rows over.taken) }
+    ensures ends { HasReadOld issuer.now rows.shard (S.bytes old.old) (S.bytes store.old) rows known
+        → EndsReading issuer.now rows.shard (S.bytes old.old) (S.bytes store.old) (S.bytes store.new)
+        (S.disk store.old) (S.disk store.new) result }
     ensures rows { IfOk result (λ over. AreRowsOf issuer.now over.rows × (over.rows.shard ≡ rows.shard)) }
     ensures within { IfOk result (λ over. IsWithin over.taken (S.size store.new)) }
-    ensures stopped { (reads : ReadsText One issuer.now rows.shard [] (S.bytes old.old) rows known)
-        → IfSome (S.bytes store.old) (Agree (journal_text reads.history))
-        → IfErr result (StopsShort issuer.now rows.shard (S.bytes old.old) (S.bytes store.old) (S.bytes store.new)
-        (S.disk store.old) (S.disk store.new)) }
-    ensures size { IfOk result (λ _. S.size store.new ≤ loaded_size (S.size old.old) (S.size store.old)) }
-    ensures same_size { IfErr result
-        (λ fault. is_store_failure fault ≡ false → S.size store.new ≡ S.size store.old) }
-    ensures old { IsOnlyRead S.size S.bytes S.disk S.room old.old old.new }
-    ensures works { HasRoom 0 (S.size old.old) (S.room old.old)
-        → HasRoom 0 (loaded_size (S.size old.old) (S.size store.old)) (S.room store.old) → is_by_store result ≡ false }
-    ensures room { S.room store.new ≡ S.room store.old }
-    ensures count { CountsBoth (S.faults old.old) (S.faults old.new) (S.faults store.old) (S.faults store.new)
-        (is_by_store result) }
+    ensures stores { TakesStores S.size S.bytes S.disk S.room S.faults result old.old old.new store.old store.new }
     ensures memory { IfErr result (λ fault. fault ≢ LoadFault.NoMemory) }
 {
     let from = Taken {

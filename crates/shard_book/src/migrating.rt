@@ -1,13 +1,11 @@
 //! Continues a journal with what it lacks of the text of the old one.
-ghost use Rattle.std.specs.Prelude.{◌≡◌, ◌≢◌, ◌⊎◌, ◌∷◌, ◌+◌, ◌^◌, ◌<◌, ◌≤◌, ℕ, List, [], false, length, take, drop, MatchOption, IfOk, IfErr, IfSome, OnOk, is_err, slice_index};
-ghost use Rattle.issuer_base.specs.OutsideFaults.{CountsFaults};
-ghost use Rattle.issuer_base.specs.Stores.{BothTold, HasRoom, WorksWithin};
+ghost use Rattle.std.specs.Prelude.{◌≡◌, ◌≢◌, ◌⊎◌, ◌∷◌, ◌+◌, ◌^◌, ◌<◌, ◌≤◌, ℕ, List, [], length, take, drop, MatchOption, IfOk, IfErr, IfSome, OnOk, is_err, slice_index};
+ghost use Rattle.issuer_base.specs.Stores.{BothTold};
 ghost use Rattle.issuer_base.specs.declared.limits.TheConstants.{MAX_STORE_BYTES};
 ghost use Rattle.journal_rec.specs.RecordText.{version_line};
-ghost use Rattle.journal_store.specs.Images.{OnlyReads};
 ghost use Rattle.shard_book.specs.Loading.{IsOutside, is_by_store, is_store_failure, newlines_in};
-ghost use Rattle.shard_book.specs.Loads.{CountsBoth, IsOnlyRead};
-ghost use Rattle.shard_book.specs.Migrating.{Agree, DiffersIn, IsTextAfter, PassesMoving};
+ghost use Rattle.shard_book.specs.Loads.{MovesText, Reads, ReadsBoth};
+ghost use Rattle.shard_book.specs.Migrating.{Agree, IsTextAfter, NamesDifference, PassesMoving};
 ghost use Rattle.shard_book.specs.Versions.{IsPartOf};
 
 use crate::replay::LoadFault;
@@ -37,11 +35,7 @@ fn read_text<S: Store>(
     ensures some { IfOk result (λ count. (0 < count) × (count ≤ length into.new) × (at + count ≤ 3 + bytes)) }
     ensures given { (text : List ℕ) → IsTextAfter (S.bytes old.old) bytes text
         → IfOk result (λ count. IfSome (S.bytes old.old) (λ _. take count into.new ≡ take count (drop at text))) }
-    ensures size { S.size old.new ≡ S.size old.old }
-    ensures bytes { S.bytes old.new ≡ S.bytes old.old }
-    ensures disk { BothTold OnlyReads (S.disk old.old) (S.disk old.new) }
-    ensures room { WorksWithin 0 (is_err result) (S.size old.old) (S.room old.old) (S.room old.new) }
-    ensures count { CountsFaults (S.faults old.old) (S.faults old.new) (is_err result) }
+    ensures read { Reads S.size S.bytes S.disk S.room S.faults (is_err result) old.old old.new }
 {
     if at < VERSION_LINE.len() as u64 {
         return Ok(copy_line(at as usize, into));
@@ -75,20 +69,14 @@ pub(crate) fn check_text<S: Store>(
     ours: &mut [u8],
     theirs: &mut [u8],
 ) -> Result<(), LoadFault>
-    requires within { bytes ≤ S.size old.old }
-    requires few { bytes ≤ MAX_STORE_BYTES }
-    requires ours { 0 < length ours.old }
-    requires theirs { 0 < length theirs.old }
+    requires bytes { (bytes ≤ S.size old.old) × (bytes ≤ MAX_STORE_BYTES) }
+    requires room { (0 < length ours.old) × (0 < length theirs.old) }
     ensures agree { (text : List ℕ) → IsTextAfter (S.bytes old.old) bytes text
         → OnOk result (IfSome (S.bytes store.old) (Agree text)) }
     ensures differ { (text : List ℕ) → IsTextAfter (S.bytes old.old) bytes text
-        → IfErr result (λ fault. IsOutside fault ⊎ IfSome (S.bytes store.old) (λ told. DiffersIn text told fault)) }
-    ensures old { IsOnlyRead S.size S.bytes S.disk S.room old.old old.new }
-    ensures store { IsOnlyRead S.size S.bytes S.disk S.room store.old store.new }
-    ensures works { HasRoom 0 (S.size old.old) (S.room old.old) → HasRoom 0 (S.size store.old) (S.room store.old)
-        → is_by_store result ≡ false }
-    ensures count { CountsBoth (S.faults old.old) (S.faults old.new) (S.faults store.old) (S.faults store.new)
-        (is_by_store result) }
+        → IfErr result (NamesDifference text (S.bytes store.old)) }
+    ensures read { ReadsBoth S.size S.bytes S.disk S.room S.faults (is_by_store result)
+        old.old old.new store.old store.new }
     ensures memory { IfErr result (λ fault. fault ≢ LoadFault.NoMemory) }
 {
     let end = store.len().min(text_bytes(bytes));
@@ -111,24 +99,17 @@ fn check_part<S: Store>(
     ours: &mut [u8],
     theirs: &mut [u8],
 ) -> Result<usize, LoadFault>
-    requires within { bytes ≤ S.size old.old }
-    requires few { bytes ≤ MAX_STORE_BYTES }
-    requires ahead { at < 3 + bytes }
-    requires inside { at < S.size store.old }
-    requires ours { 0 < length ours.old }
-    requires theirs { 0 < length theirs.old }
+    requires bytes { (bytes ≤ S.size old.old) × (bytes ≤ MAX_STORE_BYTES) }
+    requires at { (at < 3 + bytes) × (at < S.size store.old) }
+    requires room { (0 < length ours.old) × (0 < length theirs.old) }
     ensures some { IfOk result (λ count. (0 < count) × (at + count ≤ S.size store.old) × (at + count ≤ 3 + bytes)) }
     ensures agree { (text : List ℕ) → IsTextAfter (S.bytes old.old) bytes text → IfOk result
         (λ count. IfSome (S.bytes store.old) (λ told. take count (drop at told) ≡ take count (drop at text))) }
     ensures differ { (text : List ℕ) → IsTextAfter (S.bytes old.old) bytes text
         → IfSome (S.bytes store.old) (λ told. take at told ≡ take at text)
-        → IfErr result (λ fault. IsOutside fault ⊎ IfSome (S.bytes store.old) (λ told. DiffersIn text told fault)) }
-    ensures old { IsOnlyRead S.size S.bytes S.disk S.room old.old old.new }
-    ensures store { IsOnlyRead S.size S.bytes S.disk S.room store.old store.new }
-    ensures works { HasRoom 0 (S.size old.old) (S.room old.old) → HasRoom 0 (S.size store.old) (S.room store.old)
-        → is_by_store result ≡ false }
-    ensures count { CountsBoth (S.faults old.old) (S.faults old.new) (S.faults store.old) (S.faults store.new)
-        (is_by_store result) }
+        → IfErr result (NamesDifference text (S.bytes store.old)) }
+    ensures read { ReadsBoth S.size S.bytes S.disk S.room S.faults (is_by_store result)
+        old.old old.new store.old store.new }
     ensures memory { IfErr result (λ fault. fault ≢ LoadFault.NoMemory) }
 {
     let Ok(given) = read_text(old, bytes, at, theirs) else {
@@ -167,9 +148,7 @@ fn line_fault<S: Store>(store: &mut S, at: u64, buffer: &mut [u8]) -> LoadFault
     requires room { 0 < length buffer.old }
     ensures line { IsOutside result
         ⊎ IfSome (S.bytes store.old) (λ told. result ≡ LoadFault.BadLine (newlines_in (take at told) + 1)) }
-    ensures store { IsOnlyRead S.size S.bytes S.disk S.room store.old store.new }
-    ensures works { HasRoom 0 (S.size store.old) (S.room store.old) → is_store_failure result ≡ false }
-    ensures count { CountsFaults (S.faults store.old) (S.faults store.new) (is_store_failure result) }
+    ensures read { Reads S.size S.bytes S.disk S.room S.faults (is_store_failure result) store.old store.new }
     ensures memory { result ≢ LoadFault.NoMemory }
 {
     match count_newlines(store, at, buffer) {
@@ -184,11 +163,7 @@ fn count_newlines<S: Store>(store: &mut S, end: u64, buffer: &mut [u8]) -> Resul
     requires room { 0 < length buffer.old }
     ensures few { IfOk result (λ lines. lines ≤ end) }
     ensures lines { IfOk result (λ lines. IfSome (S.bytes store.old) (λ told. lines ≡ newlines_in (take end told))) }
-    ensures size { S.size store.new ≡ S.size store.old }
-    ensures bytes { S.bytes store.new ≡ S.bytes store.old }
-    ensures disk { BothTold OnlyReads (S.disk store.old) (S.disk store.new) }
-    ensures room { WorksWithin 0 (is_err result) (S.size store.old) (S.room store.old) (S.room store.new) }
-    ensures count { CountsFaults (S.faults store.old) (S.faults store.new) (is_err result) }
+    ensures read { Reads S.size S.bytes S.disk S.room S.faults (is_err result) store.old store.new }
 {
     let mut at = 0u64;
     let mut lines = 0u64;
@@ -238,8 +213,7 @@ pub(crate) fn append_steps<S: Store>(
     store: &mut S,
     buffer: &mut [u8],
 ) -> Result<(), StoreFail>
-    requires within { bytes ≤ S.size old.old }
-    requires few { bytes ≤ MAX_STORE_BYTES }
+    requires bytes { (bytes ≤ S.size old.old) × (bytes ≤ MAX_STORE_BYTES) }
     requires room { 0 < length buffer.old }
     requires lacks { S.size store.old ≤ 3 + bytes }
     ensures part { (text : List ℕ) → IsTextAfter (S.bytes old.old) bytes text
@@ -249,12 +223,8 @@ pub(crate) fn append_steps<S: Store>(
         → IfSome (S.bytes store.old) (IsPartOf text)
         → BothTold (PassesMoving text) (S.disk store.old) (S.disk store.new) }
     ensures size { OnOk result (S.size store.new ≡ 3 + bytes) }
-    ensures old { IsOnlyRead S.size S.bytes S.disk S.room old.old old.new }
-    ensures works { HasRoom 0 (S.size old.old) (S.room old.old) → HasRoom 0 (3 + bytes) (S.room store.old)
-        → is_err result ≡ false }
-    ensures room { S.room store.new ≡ S.room store.old }
-    ensures count { CountsBoth (S.faults old.old) (S.faults old.new) (S.faults store.old) (S.faults store.new)
-        (is_err result) }
+    ensures stores { MovesText S.size S.bytes S.disk S.room S.faults (3 + bytes) (is_err result)
+        old.old old.new store.old store.new }
 {
     'steps: while store.len() < text_bytes(bytes) {
         match append_step(old, bytes, store, buffer) {
@@ -281,14 +251,9 @@ fn append_step<S: Store>(
     ensures disk { (text : List ℕ) → IsTextAfter (S.bytes old.old) bytes text
         → IfSome (S.bytes store.old) (IsPartOf text)
         → BothTold (PassesMoving text) (S.disk store.old) (S.disk store.new) }
-    ensures size { OnOk result (S.size store.old < S.size store.new) }
-    ensures most { OnOk result (S.size store.new ≤ 3 + bytes) }
-    ensures old { IsOnlyRead S.size S.bytes S.disk S.room old.old old.new }
-    ensures works { HasRoom 0 (S.size old.old) (S.room old.old) → HasRoom 0 (3 + bytes) (S.room store.old)
-        → is_err result ≡ false }
-    ensures room { S.room store.new ≡ S.room store.old }
-    ensures count { CountsBoth (S.faults old.old) (S.faults old.new) (S.faults store.old) (S.faults store.new)
-        (is_err result) }
+    ensures size { OnOk result ((S.size store.old < S.size store.new) × (S.size store.new ≤ 3 + bytes)) }
+    ensures stores { MovesText S.size S.bytes S.disk S.room S.faults (3 + bytes) (is_err result)
+        old.old old.new store.old store.new }
 {
     let Ok(count) = read_text(old, bytes, store.len(), buffer) else {
         return Err(StoreFail);

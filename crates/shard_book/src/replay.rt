@@ -1,19 +1,18 @@
 //! Replays the records of a text, line by line.
-ghost use Rattle.std.specs.Prelude.{◌≡◌, ◌≢◌, ℕ, ◌+◌, ◌^◌, ◌<◌, ◌≤◌, List, length, drop, MatchOption, IfOk, IfErr, OnOk, All, false};
+ghost use Rattle.std.specs.Prelude.{◌≡◌, ◌≢◌, ◌+◌, ◌^◌, ◌<◌, List, length, drop, IfOk, IfErr, MatchResult, All, false};
 ghost use Rattle.issuer_base.specs.declared.entry.Entry.{Entry};
 ghost use Rattle.shard_book.specs.Loading.{IsWithin, StopsLines, TakesLines, is_store_failure};
 ghost use Rattle.shard_book.specs.ReadAhead.{AreLookedUp, StopsWithin, TakesAll};
 ghost use Rattle.journal_rec.specs.Record.{IsRecord};
 ghost use Rattle.card_history.specs.LegalRecords.{IsLegalHistory};
 ghost use Rattle.journal_rec.specs.RecordText.{IsUnbroken};
-ghost use Rattle.shard_book.specs.LineAhead.{IsLineAhead};
 ghost use Rattle.shard_book.specs.Versions.{bad_line, bad_record, grounds_in};
 ghost use Rattle.shard_book.specs.ShardRows.{AreRowsOf, AreSame, RowsStandFor};
 
 use crate::ahead::Ahead;
+use crate::newline::next_newline;
 use crate::rows::Rows;
 use issuer_setup::Issuer;
-use memchr::memchr;
 
 /// Why a journal isn't loaded.
 #[derive(Clone, Copy, PartialEq, Eq, Debug)]
@@ -103,13 +102,11 @@ impl Rows {
         requires rows { AreRowsOf issuer.now self.old }
         requires room { place + place + length text.now < 2 ^ 64 }
         ensures taken { (history : List Entry) → RowsStandFor issuer.now self.old history → place ≡ length history
-            → IsLegalHistory (grounds_in version issuer.now) self.old.shard history
-            → IfOk result (λ taken. TakesLines version issuer.now self.old.shard history text.now taken self.new) }
+            → IsLegalHistory (grounds_in version issuer.now) self.old.shard history → MatchResult result
+            (λ taken. TakesLines version issuer.now self.old.shard history text.now taken self.new)
+            (StopsLines version issuer.now self.old.shard history text.now) }
         ensures rest { IfOk result (λ taken. IsUnbroken (drop taken.bytes text.now)) }
         ensures within { IfOk result (λ taken. IsWithin taken (length text.now)) }
-        ensures stopped { (history : List Entry) → RowsStandFor issuer.now self.old history → place ≡ length history
-            → IsLegalHistory (grounds_in version issuer.now) self.old.shard history
-            → IfErr result (StopsLines version issuer.now self.old.shard history text.now) }
         ensures own { IfErr result (λ fault. is_store_failure fault ≡ false) }
         ensures memory { IfErr result (λ fault. fault ≢ LoadFault.NoMemory) }
         ensures same { AreSame self.old self.new }
@@ -148,11 +145,9 @@ impl Rows {
         requires found { AreLookedUp issuer.now ahead.now }
         requires room { place + length ahead.now.entries + 2 < 2 ^ 64 }
         ensures taken { (history : List Entry) → RowsStandFor issuer.now self.old history → place ≡ length history
-            → IsLegalHistory (grounds_in version issuer.now) self.old.shard history
-            → OnOk result (TakesAll version issuer.now self.old.shard history ahead.now.entries self.new) }
-        ensures stopped { (history : List Entry) → RowsStandFor issuer.now self.old history → place ≡ length history
-            → IsLegalHistory (grounds_in version issuer.now) self.old.shard history
-            → IfErr result (StopsWithin version issuer.now self.old.shard history ahead.now.entries) }
+            → IsLegalHistory (grounds_in version issuer.now) self.old.shard history → MatchResult result
+            (λ _. TakesAll version issuer.now self.old.shard history ahead.now.entries self.new)
+            (StopsWithin version issuer.now self.old.shard history ahead.now.entries) }
         ensures own { IfErr result (λ fault. is_store_failure fault ≡ false) }
         ensures memory { IfErr result (λ fault. fault ≢ LoadFault.NoMemory) }
         ensures same { AreSame self.old self.new }
@@ -166,12 +161,4 @@ impl Rows {
         }
         Ok(())
     }
-}
-
-/// How many bytes are before the first newline from an offset on.
-pub(crate) fn next_newline(text: &[u8], from: usize) -> Option<usize>
-    requires { from ≤ length text.now }
-    ensures { MatchOption result (IsUnbroken (drop from text.now)) (IsLineAhead (drop from text.now)) }
-{
-    memchr(b'\n', &text[from..])
 }

@@ -1,31 +1,24 @@
 //! A shard over a store: what it answers or takes, and what it records before that.
-ghost use Rattle.std.specs.Prelude.{◌≡◌, ◌⊎◌, ℕ, ◌^◌, ◌≤◌, ◌/◌, slice_get, Some, min, if◌then◌else◌, List, [], ◌∷◌, ◌++◌, length, ◌<◌, Ok, Err, IfOk, IfErr, MatchResult, All, false, true, IsTrue, is_err};
-ghost use Rattle.issuer_base.specs.OutsideFaults.{CountsFaults};
-ghost use Rattle.issuer_base.specs.Stores.{BothTold, CutsBytes, HasRoom, LeavesOnly};
+ghost use Rattle.std.specs.Prelude.{◌≡◌, ℕ, ◌≤◌, ◌/◌, slice_get, Some, List, length, ◌<◌, Ok, Err, IfOk, IfErr, MatchResult, false, IsTrue, is_err};
+ghost use Rattle.issuer_base.specs.Stores.{BothTold, LeavesOnly};
 ghost use Rattle.issuer_base.specs.declared.entry.Entry.{Entry};
-ghost use Rattle.card_history.specs.LegalRecords.{IsLegal};
 ghost use Rattle.issuer_base.specs.CardNames.{named};
-ghost use Rattle.card_history.specs.Records.{card_of};
-ghost use Rattle.issuer_setup.specs.declared.card.CardInfo.{CardInfo};
 ghost use Rattle.issuer_setup.specs.IssuerSetup.{Setup};
-ghost use Rattle.row_core.specs.Plan.{IsNext};
 ghost use Rattle.row_core.specs.Replying.{reply_to};
 ghost use Rattle.line_checks.specs.AtHand.{IsCommandAtHand, IsStatusAtHand, order_asked, record_of};
 ghost use Rattle.journal_rec.specs.Record.{is_record, IsRecord};
 ghost use Rattle.journal_rec.specs.RecordText.{journal_text, text_of};
 ghost use Rattle.journal_rec.specs.declared.limits.TheConstants.{LEAST_RECORD_BYTES, MOST_QUEUED_BYTES, MOST_RECORD_BYTES};
-ghost use Rattle.issuer_base.specs.Tells.{Tells};
-ghost use Rattle.journal_store.specs.Holding.{Holds};
-ghost use Rattle.journal_store.specs.Images.{IsCutImage, IsEitherImage};
-ghost use Rattle.shard_book.specs.Loading.{IsOldText, IsWithin, IsOutside, is_store_failure};
-ghost use Rattle.shard_book.specs.Grounds.{grounds_now, IsImageOf};
-ghost use Rattle.shard_book.specs.Steps.{IsCardOf, IsLaunchAt};
-ghost use Rattle.shard_book.specs.Shards.{number_in, IsUnder, HasCard, store_in, sure_in, disk_in, faults_in, places_in, reported_in, IsUndoubted, HoldsHistory, StandsFor, HasTail, Adds, IsTextOf, IsImageLeft, IsSettled, StandsForLeft};
+ghost use Rattle.journal_store.specs.Images.{IsEitherImage};
+ghost use Rattle.journal_store.specs.Opening.{IsNotOpened};
+ghost use Rattle.shard_book.specs.Loading.{IsOldText, IsWithin};
+ghost use Rattle.shard_book.specs.Steps.{IsLaunchAt};
+ghost use Rattle.shard_book.specs.Shards.{number_in, IsUnder, HasCard, store_in, disk_in, places_in, reported_in, StandsFor, HasTail, Adds, IsTextOf, IsImageLeft, IsSettled, StandsForLeft};
 ghost use Rattle.shard_book.specs.Recorded.{AddsRecorded};
 ghost use Rattle.shard_book.specs.Room.{most_of, UsesRoom, LoadsWithin};
-ghost use Rattle.shard_book.specs.Answering.{is_store_fault, tells_change, LeavesTail, reported_after, AnswersClaimed, AnswersQueueing, AnswersSetting, AnswersOrder};
-ghost use Rattle.shard_book.specs.Calls.{AnswersBy, IsOrderFor, IsRequestFor, LeavesImages, KeepsCall, KeepsShard};
-ghost use Rattle.shard_book.specs.Loads.{HaveRoom, IsLoadedFrom, IsNotLoaded, IsOnlyRead};
+ghost use Rattle.shard_book.specs.Answering.{is_store_fault, LeavesTail, reported_after, AnswersClaimed, AnswersQueueing, AnswersSetting, AnswersOrder};
+ghost use Rattle.shard_book.specs.Calls.{AnswersBy, CountsPut, IsOrderFor, IsRequestFor, KeepsCall, KeepsShard, LeavesImages, LeavesImagesOf, LeavesPut, MayRecord};
+ghost use Rattle.shard_book.specs.Loads.{HaveRoom, IsLoadedFrom, IsNotLoaded, IsOnlyRead, IsOpenedFrom, LoadsAs, StoresWork};
 ghost use Rattle.shard_book.specs.Taking.{IsRecordFor, IsReplicaOf, KeepsReplica, LeavesReplicas, LeavesTaken, Takes, is_failed_store};
 
 use crate::ahead::look_up_record;
@@ -80,22 +73,21 @@ impl<S: Store> Shard<S> {
 
         // The text of a legal history, or a part of the old store's, is loaded, and as just this history. Only memory
         // or the stores themselves can stop it.
-        ensures exact { (known history : List Entry) → IsOldText issuer.now shard (S.bytes old.old) known
-            → IsTextOf issuer.now shard known (S.bytes store) history
-            → MatchResult result (λ loaded. IsSettled issuer.now loaded history) (λ back. IsOutside back.fault) }
+        ensures exact { (past history : List Entry) → IsOldText issuer.now shard (S.bytes old.old) past
+            → IsTextOf issuer.now shard past (S.bytes store) history
+            → LoadsAs (λ loaded. IsSettled issuer.now loaded history) result }
 
         // So is what a crash left of a history, under whatever decision table: as that history, or as it and the one
         // record whose text is whole.
-        ensures image { (known history : List Entry) → IsOldText issuer.now shard (S.bytes old.old) known
-            → IsImageLeft issuer.now shard known (S.bytes store) history
-            → MatchResult result (StandsForLeft issuer.now shard (S.bytes store) history)
-            (λ back. IsOutside back.fault) }
+        ensures image { (past history : List Entry) → IsOldText issuer.now shard (S.bytes old.old) past
+            → IsImageLeft issuer.now shard past (S.bytes store) history
+            → LoadsAs (StandsForLeft issuer.now shard (S.bytes store) history) result }
         ensures old { IsOnlyRead S.size S.bytes S.disk S.room old.old old.new }
 
         // Stores that work at the sizes that they have or may grow to don't fail.
         ensures room { (spare : ℕ)
             → HaveRoom spare (S.size old.old) (S.room old.old) (S.size store) (S.room store)
-            → IfErr result (λ back. is_store_failure back.fault ≡ false) }
+            → StoresWork result }
     {
         let mut store = store;
         match take_over(alloc, old, &mut store, issuer, shard) {
@@ -310,19 +302,12 @@ impl<S: Store> Shard<S> {
         requires home { HasCard self.old found.now.card }
         requires some { 1 ≤ length reply.now.bytes.items }
         requires launch { IsLaunchAt self.old.rows found.now launch }
-        ensures added { (issuer : Setup) (card : CardInfo) (history : List Entry) → StandsFor issuer self.old history
-            → IsCardOf issuer found.now.card card
-            → IsNext card history (record { request = found.now.request; reply = reply.now; place = length history })
-            → IsLegal (grounds_now issuer) (number_in self.old) history (Entry.Decided found.now.request reply.now)
+        ensures added { (issuer : Setup) (history : List Entry) → MayRecord issuer self.old found.now reply.now history
             → Adds issuer self.new history (Entry.Decided found.now.request reply.now) result }
         ensures tail { (history : List Entry) (tail : List ℕ) → HasTail self.old history tail
-            → let entry = Entry.Decided found.now.request reply.now in
-            MatchResult result (λ _. HasTail self.new (history ++ entry ∷ []) [])
-            (λ _. HasTail self.new history tail ⊎ HasTail self.new history (text_of entry)) }
-        ensures crash { (issuer : Setup) (history : List Entry) → StandsFor issuer self.old history
-            → IsLegal (grounds_now issuer) (number_in self.old) history (Entry.Decided found.now.request reply.now)
-            → BothTold (LeavesOnly (IsImageOf (grounds_now issuer) (number_in self.old) history))
-            (disk_in self.old) (disk_in self.new) }
+            → LeavesPut history tail (Entry.Decided found.now.request reply.now) result self.new }
+        ensures crash { (issuer : Setup) (history : List Entry) → MayRecord issuer self.old found.now reply.now history
+            → LeavesImagesOf issuer history self.old self.new }
         ensures room { UsesRoom MOST_RECORD_BYTES (is_err result) self.old self.new }
         ensures kept { (issuer : Setup) → IsUnder issuer self.old
             → KeepsCall issuer self.old (is_err result) self.new }
@@ -338,17 +323,14 @@ impl<S: Store> Shard<S> {
     fn put(&mut self, entry: &Entry) -> Result<u64, StoreFail>
         requires { IsTrue (is_record entry.now) }
         ensures put { (history : List Entry) (tail : List ℕ) → HasTail self.old history tail
-            → MatchResult result (λ place. (place ≡ length history) × HasTail self.new (history ++ entry.now ∷ []) [])
-            (λ _. HasTail self.new history tail ⊎ HasTail self.new history (text_of entry.now)) }
+            → LeavesPut history tail entry.now result self.new }
         ensures record { IsRecord entry.now }
         ensures rows { self.new.rows ≡ self.old.rows }
         ensures crash { (history : List Entry) (tail : List ℕ) → HasTail self.old history tail
             → BothTold (LeavesOnly (IsEitherImage (journal_text history) tail (text_of entry.now)))
             (disk_in self.old) (disk_in self.new) }
         ensures room { UsesRoom (most_of entry.now) (is_err result) self.old self.new }
-        ensures count { CountsFaults (faults_in self.old) (faults_in self.new) (is_err result) }
-        ensures told { reported_in self.new ≡ reported_after (reported_in self.old) (is_err result) }
-        ensures undoubted { IsUndoubted self.new }
+        ensures counts { CountsPut self.old (is_err result) self.new }
     {
         self.put_text(write_entry(entry).as_slice())
     }
@@ -358,17 +340,14 @@ impl<S: Store> Shard<S> {
         requires { LEAST_RECORD_BYTES ≤ length text.now }
         ensures put { (history : List Entry) (tail : List ℕ) (entry : Entry)
             → text.now ≡ text_of entry → HasTail self.old history tail
-            → MatchResult result (λ place. (place ≡ length history) × HasTail self.new (history ++ entry ∷ []) [])
-            (λ _. HasTail self.new history tail ⊎ HasTail self.new history (text_of entry)) }
+            → LeavesPut history tail entry result self.new }
         ensures rows { self.new.rows ≡ self.old.rows }
         ensures crash { (history : List Entry) (tail : List ℕ) (entry : Entry)
             → text.now ≡ text_of entry → HasTail self.old history tail
             → BothTold (LeavesOnly (IsEitherImage (journal_text history) tail (text_of entry)))
             (disk_in self.old) (disk_in self.new) }
         ensures room { UsesRoom (length text.now) (is_err result) self.old self.new }
-        ensures count { CountsFaults (faults_in self.old) (faults_in self.new) (is_err result) }
-        ensures told { reported_in self.new ≡ reported_after (reported_in self.old) (is_err result) }
-        ensures undoubted { IsUndoubted self.new }
+        ensures counts { CountsPut self.old (is_err result) self.new }
     {
         let written = self.journal.put(text);
         self.reported = reported_after(self.reported, written.is_err());
@@ -379,22 +358,10 @@ impl<S: Store> Shard<S> {
 /// Opens the journal of a store from whose prefix the rows were replayed.
 fn open<S: Store>(store: S, rows: Rows, taken: Taken) -> Result<Shard<S>, LoadBack<S>>
     requires within { IsWithin taken (S.size store) }
-    ensures rows { IfOk result (λ loaded. loaded.rows ≡ rows) }
-    ensures sure { IfOk result (λ loaded. sure_in loaded ≡ taken.bytes) }
-    ensures places { IfOk result (λ loaded. places_in loaded ≡ taken.records) }
-    ensures untold { IfOk result (λ loaded. reported_in loaded ≡ 0) }
-    ensures undoubted { IfOk result IsUndoubted }
-    ensures holds { (text rest : List ℕ) → length text ≡ taken.bytes → Tells (S.bytes store) (text ++ rest)
-        → IfOk result (λ loaded. Holds loaded.journal taken.records text []) }
-    ensures opened { IfOk result (λ loaded.
-        BothTold (λ old new. LeavesOnly (IsCutImage taken.bytes old.now) old new) (S.disk store) (disk_in loaded)) }
-    ensures kept { IfErr result (λ back. BothTold (CutsBytes taken.bytes true) (S.bytes store) (S.bytes back.store)) }
-    ensures crash { IfErr result (λ back.
-        BothTold (λ old new. LeavesOnly (IsCutImage taken.bytes old.now) old new) (S.disk store) (S.disk back.store)) }
-    ensures fault { IfErr result (λ back. back.fault ≡ LoadFault.StoreFault) }
+    ensures opened { MatchResult result (IsOpenedFrom store rows taken)
+        (λ back. (back.fault ≡ LoadFault.StoreFault)
+        × IsNotOpened S.bytes S.disk S.faults store taken.bytes back.store) }
     ensures room { LoadsWithin (S.size store) (S.room store) result }
-    ensures count { IfOk result (λ loaded. CountsFaults (S.faults store) (faults_in loaded) false) }
-    ensures failed { IfErr result (λ back. CountsFaults (S.faults store) (S.faults back.store) true) }
 {
     match Journal::open(store, taken.bytes as u64, taken.records) {
         Ok(journal) => Ok(Shard {

@@ -1,8 +1,10 @@
 -- The next bytes of the text are appended and synced.
-use Rattle.std.proofs.Common.{◌≡◌, ℕ, List, Option, take, drop, sym, subst, IfSome}
+use Rattle.std.proofs.Common.{◌≡◌, ℕ, List, Option, take, drop, refl, sym, subst, ◌∙◌, rules, IfSome}
 use Rattle.journal_store.proofs.ReadSoFar.{reads-none}
 use Rattle.shard_book.specs.Migrating.{IsTextAfter}
 use Rattle.shard_book.specs.Versions.{IsPartOf}
+use Rattle.journal_store.proofs.Rooms.{room-left}
+use Rattle.shard_book.proofs.BothStores.{counts-first}
 use Rattle.shard_book.proofs.Migration.{moving-none, moving-sync, moving-then, piece-given, told-appended, told-moving}
 use Rattle.shard_book.proofs.migrating.append_step.Given.{Over}
 use Rattle.shard_book.proofs.migrating.append_step.Goals.{In-Ok}
@@ -43,3 +45,27 @@ returns-clause-disk g c text after part =
     (g.met.S.Store.told_bytes c.args.store.now) part (g.met.S.Store.told_size c.args.store.now)
     (given g (goal.at.returns-clause-disk g c).In-Ok text after) c.append.ensures.disk)
     (moving-sync text _ _ _ c.sync.ensures.disk)
+
+pub returns-in_default-clause-stores : goal.returns-in_default-clause-stores
+returns-in_default-clause-stores g c = record {
+  old_read = c.in_default.ensures.read.only;
+  works = λ has had. c.in_default.ensures.read.works has;
+  room_is = refl;
+  counts = counts-first _ _ _ _ c.in_default.ensures.read.counts;
+}
+
+pub returns-in_default-append-clause-stores : goal.returns-in_default-append-clause-stores
+returns-in_default-append-clause-stores g c = record {
+  old_read = c.in-Ok.ensures.read.only;
+  works = λ has had. c.in_default-append.ensures.room.works (room-left _ _ _ _ _ _ had refl (let some = c.in-Ok.ensures.some in search rules));
+  room_is = c.append.ensures.room.stays;
+  counts = search rules;
+}
+
+pub returns-clause-stores : goal.returns-clause-stores
+returns-clause-stores g c = record {
+  old_read = c.in-Ok.ensures.read.only;
+  works = search rules;
+  room_is = c.sync.ensures.room.stays ∙ c.append.ensures.room.stays;
+  counts = search rules;
+}

@@ -1,7 +1,7 @@
 -- One more step.
-use Rattle.std.proofs.Common.{refl, ◌∙◌, arith}
+use Rattle.std.proofs.Common.{arith}
 use Rattle.journal_store.proofs.ReadSoFar.{reads-none}
-use Rattle.shard_book.proofs.BothStores.{counts-after, counts-none, only-same, only-then}
+use Rattle.shard_book.proofs.BothStores.{moves-nothing, moves-on}
 use Rattle.shard_book.proofs.Migration.{after-later, moving-none, moving-then}
 use Rattle.shard_book.proofs.migrating.append_steps.Goals as goal
 
@@ -11,9 +11,7 @@ steps-init g c = record {
   grows = omega arith;
   part = λ text after part. part;
   passes = λ text after part. moving-none text _ _ (reads-none _);
-  old_read = only-same g.S.Store.size g.S.Store.bytes g.S.Store.disk g.S.Store.room c.args.old.now;
-  room_stays = refl;
-  counts = counts-none _ _;
+  moves = moves-nothing g.S.Store _ _ _;
 }
 
 pub steps-preserved : goal.steps-preserved
@@ -22,23 +20,20 @@ steps-preserved g c =
     let grown = before.grows in
     let more = c.append_step.ensures.grows in
     record {
-      within = c.in-Ok.ensures.most;
+      within = c.in-Ok.ensures.size.1;
       grows = omega (arith, grown, more);
-      part = λ text after was. c.append_step.ensures.part text (after-later _ _ _ text before.old_read.bytes_are after) (before.part text after was);
+      part = λ text after was. c.append_step.ensures.part text (after-later _ _ _ text before.moves.old_read.bytes_are after) (before.part text after was);
       passes = λ text after was.
           moving-then text _ _ _ (before.passes text after was)
-          (c.append_step.ensures.disk text (after-later _ _ _ text before.old_read.bytes_are after) (before.part text after was));
-      old_read = only-then g.S.Store.size g.S.Store.bytes g.S.Store.disk g.S.Store.room _ _ _ before.old_read c.append_step.ensures.old;
-      room_stays = c.append_step.ensures.room ∙ before.room_stays;
-      counts = counts-after _ _ _ _ _ _ _ before.counts c.in-Ok.ensures.count;
+          (c.append_step.ensures.disk text (after-later _ _ _ text before.moves.old_read.bytes_are after) (before.part text after was));
+      moves = moves-on g.S.Store _ _ _ _ _ _ _ _ before.moves c.in-Ok.ensures.stores;
     }
 
 pub returns-in-Err-clause-disk : goal.returns-in-Err-clause-disk
 returns-in-Err-clause-disk g c text after was =
     let before = c.steps.invariant in
     moving-then text _ _ _ (before.passes text after was)
-    (c.append_step.ensures.disk text (after-later _ _ _ text before.old_read.bytes_are after) (before.part text after was))
+    (c.append_step.ensures.disk text (after-later _ _ _ text before.moves.old_read.bytes_are after) (before.part text after was))
 
-pub returns-in-Err-clause-old : goal.returns-in-Err-clause-old
-returns-in-Err-clause-old g c =
-    only-then g.S.Store.size g.S.Store.bytes g.S.Store.disk g.S.Store.room _ _ _ c.steps.invariant.old_read c.append_step.ensures.old
+pub returns-in-Err-clause-stores : goal.returns-in-Err-clause-stores
+returns-in-Err-clause-stores g c = moves-on g.S.Store _ _ _ _ _ _ _ _ c.steps.invariant.moves c.in-Err.ensures.stores

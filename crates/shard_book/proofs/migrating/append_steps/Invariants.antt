@@ -1,7 +1,7 @@
 -- The store has a longer part of the text.
-use Rattle.std.proofs.Common.{◌≡◌, ◌+◌, ◌-◌, ◌≤◌, ℕ, List, IfSome, false}
+use Rattle.std.proofs.Common.{◌+◌, ◌-◌, ◌≤◌, ℕ, List, IfSome, false}
 use Rattle.issuer_base.specs.Stores.{BothTold}
-use Rattle.shard_book.specs.Loads.{CountsBoth, IsOnlyRead}
+use Rattle.shard_book.specs.Loads.{MovesText}
 use Rattle.shard_book.specs.Migrating.{IsTextAfter, PassesMoving}
 use Rattle.shard_book.specs.Versions.{IsPartOf}
 use Rattle.shard_book.proofs.migrating.append_steps.Given as goal
@@ -15,9 +15,8 @@ invariant-steps g l = record {
   passes : (text : List ℕ) → IsTextAfter (g.S.Store.bytes l.fn.old) l.bytes text
       → IfSome (g.S.Store.bytes l.fn.store) (IsPartOf text)
       → BothTold (PassesMoving text) (g.S.Store.disk l.fn.store) (g.S.Store.disk l.store);
-  old_read : IsOnlyRead g.S.Store.size g.S.Store.bytes g.S.Store.disk g.S.Store.room l.fn.old l.old;
-  room_stays : g.S.Store.room l.store ≡ g.S.Store.room l.fn.store;
-  counts : CountsBoth (g.S.Store.faults l.fn.old) (g.S.Store.faults l.old) (g.S.Store.faults l.fn.store) (g.S.Store.faults l.store) false;
+  moves :
+      MovesText g.S.Store.size g.S.Store.bytes g.S.Store.disk g.S.Store.room g.S.Store.faults (3 + l.bytes) false l.fn.old l.old l.fn.store l.store;
 }
 
 abbrev pub decreases-steps : goal.decreases-steps

@@ -1,8 +1,10 @@
 -- Both parts agree, or differ first in a line.
-use Rattle.std.proofs.Common.{◌≡◌, ◌≢◌, ◌<◌, ◌≤◌, ◌+◌, ◌++◌, ℕ, List, drop, take, length, ap, sym, subst, ◌∙◌, arith, length-take}
+use Rattle.std.proofs.Common.{◌≡◌, ◌≢◌, ◌<◌, ◌≤◌, ◌+◌, ◌++◌, ℕ, Bool, List, drop, take, length, ap, sym, subst, ◌∙◌, arith, length-take, true, false}
 use Rattle.std.specs.Prelude.{slice_index}
 use Rattle.std.proofs.lemmas.List.{take-append-le}
-use Rattle.shard_book.proofs.BothStores.{only-from, only-same, only-then}
+use Rattle.shard_book.specs.Loads.{Reads, ReadsBoth}
+use Rattle.shard_book.proofs.BothStores.{both-first, both-on, both-second, reads-from}
+use Rattle.shard_book.proofs.LoadStops.{reasons-alike}
 use Rattle.shard_book.proofs.Migration.{line-later, part-agrees, part-differs, within-told}
 use Rattle.shard_book.proofs.migrating.check_part.Given.{Over}
 use Rattle.shard_book.proofs.migrating.check_part.Goals.{In-Ok-read_from}
@@ -24,8 +26,26 @@ few g c =
     let cut = length-take c.min-room.result c.args.ours.now in
     omega (arith, all, same, room, cut)
 
-pub returns-in_default-clause-store : goal.returns-in_default-clause-store
-returns-in_default-clause-store g c = only-same g.S.Store.size g.S.Store.bytes g.S.Store.disk g.S.Store.room c.args.store.now
+pub returns-in_default-clause-read : goal.returns-in_default-clause-read
+returns-in_default-clause-read g c = both-first g.S.Store true _ _ _ c.in_default.ensures.read
+
+pub returns-in_default-read_from-clause-read : goal.returns-in_default-read_from-clause-read
+returns-in_default-read_from-clause-read g c =
+    both-on g.S.Store true _ _ _ _ _ _ (both-first g.S.Store false _ _ _ c.in-Ok.ensures.read)
+    (both-second g.S.Store true _ _ _ (reads-from g.S.Store true _ _ c.read_from.ensures.size c.read_from.ensures.bytes c.read_from.ensures.disk
+    c.in_default-read_from.ensures.room c.in_default-read_from.ensures.count))
+
+-- what was read of both stores didn't fail
+both-read : (g : Over) (c : In-Ok-read_from g)
+    → ReadsBoth g.S.Store.size g.S.Store.bytes g.S.Store.disk g.S.Store.room g.S.Store.faults false c.args.old.now c.read_text.new.old c.args.store.now
+    c.read_from.new.store
+both-read g c =
+    both-on g.S.Store false _ _ _ _ _ _ (both-first g.S.Store false _ _ _ c.in-Ok.ensures.read)
+    (both-second g.S.Store false _ _ _ (reads-from g.S.Store false _ _ c.read_from.ensures.size c.read_from.ensures.bytes c.read_from.ensures.disk
+    c.in-Ok-read_from.ensures.room c.in-Ok-read_from.ensures.count))
+
+pub returns-in-None-clause-read : goal.returns-in-None-clause-read
+returns-in-None-clause-read g c = both-read g (goal.at.returns-in-None-clause-read g c).In-Ok-read_from
 
 pub returns-in-None-clause-agree : goal.returns-in-None-clause-agree
 returns-in-None-clause-agree g c text after =
@@ -58,9 +78,9 @@ returns-in-Some-clause-differ g c text after front =
     front
     (line-later (g.S.Store.bytes c.args.store.now) _ (c.args.at + same) c.line_fault.result c.in-Ok-read_from.ensures.bytes c.line_fault.ensures.line)
 
-pub returns-in-Some-clause-store : goal.returns-in-Some-clause-store
-returns-in-Some-clause-store g c =
-    only-then g.S.Store.size g.S.Store.bytes g.S.Store.disk g.S.Store.room _ _ _
-    (only-from g.S.Store.size g.S.Store.bytes g.S.Store.disk g.S.Store.room _ _ c.in-Ok-read_from.ensures.size c.in-Ok-read_from.ensures.bytes
-    c.in-Ok-read_from.ensures.disk c.in-Ok-read_from.ensures.room.stays)
-    c.line_fault.ensures.store
+pub returns-in-Some-clause-read : goal.returns-in-Some-clause-read
+returns-in-Some-clause-read g c =
+    both-on g.S.Store _ _ _ _ _ _ _ (both-read g (goal.at.returns-in-Some-clause-read g c).In-Ok-read_from)
+    (both-second g.S.Store _ _ _ _
+    (subst (λ (failed : Bool). Reads g.S.Store.size g.S.Store.bytes g.S.Store.disk g.S.Store.room g.S.Store.faults failed c.read_from.new.store
+    c.line_fault.new.store) (sym (reasons-alike ℕ c.line_fault.result)) c.line_fault.ensures.read))

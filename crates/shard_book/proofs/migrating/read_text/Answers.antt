@@ -1,6 +1,6 @@
 -- A part of the first line, or of the old store.
 use Rattle.std.proofs.Common.{drop, arith, length-take}
-use Rattle.journal_store.proofs.ReadSoFar.{reads-none}
+use Rattle.shard_book.proofs.BothStores.{reads-nothing}
 use Rattle.shard_book.proofs.Migration.{line-given, old-part}
 use Rattle.shard_book.proofs.migrating.read_text.Goals as goal
 
@@ -9,8 +9,8 @@ returns-then-at-clause-given g c text after =
     line-given (g.S.Store.bytes c.args.old.now) c.args.bytes c.args.at c.copy_line.result text c.copy_line.new.into after
     c.copy_line.ensures.some.2 c.copy_line.ensures.given
 
-pub returns-then-at-clause-disk : goal.returns-then-at-clause-disk
-returns-then-at-clause-disk g c = reads-none _
+pub returns-then-at-clause-read : goal.returns-then-at-clause-read
+returns-then-at-clause-read g c = reads-nothing g.S.Store _
 
 pub returns-clause-given : goal.returns-clause-given
 returns-clause-given g c text after =

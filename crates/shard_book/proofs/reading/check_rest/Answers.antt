@@ -1,12 +1,12 @@
 -- A newline after the buffer ends a line that is that of no record. Without one the remainder is a torn line.
 use Rattle.std.proofs.Common.{true, false, arith, length, subst, sym}
 use Rattle.shard_book.specs.Loading.{StopsReplay}
-use Rattle.journal_store.proofs.ReadSoFar.{reads-none}
+use Rattle.shard_book.proofs.BothStores.{reads-nothing}
 use Rattle.shard_book.proofs.Loaded.{found-as, rest-short, rest-long, stops-long}
 use Rattle.shard_book.proofs.reading.check_rest.Goals as goal
 
-pub returns-then-len-from-clause-disk : goal.returns-then-len-from-clause-disk
-returns-then-len-from-clause-disk g c = reads-none _
+pub returns-then-len-from-clause-read : goal.returns-then-len-from-clause-read
+returns-then-len-from-clause-read g c = reads-nothing g.S.Store _
 
 pub returns-then-len-from-clause-rest : goal.returns-then-len-from-clause-rest
 returns-then-len-from-clause-rest g c front =

@@ -14,7 +14,7 @@ returns-then-from-len-clause-given g c history read = (
   told-whole _ c.args.self.now.taken history read.front
       (rest-short _ c.args.self.now.taken (length (ahead_of c.args.self.now)) (g.S.Store.size c.args.store.now)
       (g.met.S.Store.told_size c.args.store.now) (omega (arith, c.if-from-len.true, c.len.ensures.size, ap length c.ahead.ensures))
-      (told-unbroken _ (ahead_of c.args.self.now) c.args.self.now.taken read.buffered c.requires.unbroken)),
+      (told-unbroken _ (ahead_of c.args.self.now) c.args.self.now.taken read.buffered c.requires.ahead.0)),
 )
 
 pub returns-then-from-len-clause-only_read : goal.returns-then-from-len-clause-only_read
@@ -24,9 +24,9 @@ pub returns-in-Ok-true-clause-stopped : goal.returns-in-Ok-true-clause-stopped
 returns-in-Ok-true-clause-stopped g c history read = (
   ap (λ n. n + 2) read.count_is,
   long-bad _ history c.args.self.now.taken (length (ahead_of c.args.self.now)) (g.S.Store.size c.args.store.now)
-      read.front (g.met.S.Store.told_size c.args.store.now) (omega (arith, c.requires.all, c.requires.within))
-      (omega (arith, c.requires.all, c.if-from-len.false, c.len.ensures.size, ap length c.ahead.ensures, c.args.self.now.sized))
-      (told-unbroken _ (ahead_of c.args.self.now) c.args.self.now.taken read.buffered c.requires.unbroken)
+      read.front (g.met.S.Store.told_size c.args.store.now) (omega (arith, c.requires.ahead.1, c.requires.within))
+      (omega (arith, c.requires.ahead.1, c.if-from-len.false, c.len.ensures.size, ap length c.ahead.ensures, c.args.self.now.sized))
+      (told-unbroken _ (ahead_of c.args.self.now) c.args.self.now.taken read.buffered c.requires.ahead.0)
       (subst (λ (l : List ℕ). IfSome (g.S.Store.bytes c.args.store.now)
       (λ text. HasLineAhead (drop (c.args.self.now.taken + length l) text))) c.ahead.ensures
       (found-as _ _ _ true c.in-Ok-true.field-0-test c.in-Ok-true.ensures.found)),
@@ -37,7 +37,7 @@ returns-in-Ok-false-clause-given g c history read = (
   read.records,
   told-whole _ c.args.self.now.taken history read.front
       (rest-long _ c.args.self.now.taken (length (ahead_of c.args.self.now))
-      (told-unbroken _ (ahead_of c.args.self.now) c.args.self.now.taken read.buffered c.requires.unbroken)
+      (told-unbroken _ (ahead_of c.args.self.now) c.args.self.now.taken read.buffered c.requires.ahead.0)
       (subst (λ (l : List ℕ). IfSome (g.S.Store.bytes c.args.store.now)
       (λ text. IsUnbroken (drop (c.args.self.now.taken + length l) text))) c.ahead.ensures
       (found-as _ _ _ false c.in-Ok-false.field-0-test c.in-Ok-false.ensures.found))),

@@ -1,6 +1,5 @@
 -- What a crash leaves while a record is appended: first what is in doubt is truncated, then the record is written.
-use Rattle.std.proofs.Common.{◌≡◌, ◌⊎◌, ◌+◌, ◌++◌, [], None, inr, refl, Result, Ok, Err, IfOk, MatchResult}
-use Rattle.std.specs.Result.{IsErr}
+use Rattle.std.proofs.Common.{◌≡◌, ◌⊎◌, ◌+◌, ◌++◌, [], None, inr, Result, Ok, Err, MatchResult}
 use Rattle.journal_store.specs.Holding.{Holds}
 use Rattle.journal_store.proofs.Passing.{crash-clear, crash-put}
 use Rattle.journal_store.proofs.journal.Journal.put.Goals as goal
@@ -17,15 +16,13 @@ returns-clause-crash g c count text tail holds =
 pub returns-in_err-clear-clause-room : goal.returns-in_err-clear-clause-room
 returns-in_err-clear-clause-room g c spare has = absurd (c.in_err-clear.ensures.room _ has)
 
--- what holds of a result at `Ok`, and what at `Err`
-match-ends : {A B : Type 0} (P : A → Type 0) (Q : Type 0) (result : Result A B) → IfOk result P → (IsErr result → Q) → MatchResult result P (λ _. Q)
-match-ends P Q (Ok value) holds fails = holds
-match-ends P Q (Err fault) holds fails = fails refl
+-- what holds of a result at `Ok`, and what at `Err`, whose one part is known
+one-part : {A B : Type 0} (P : A → Type 0) (Q R : Type 0) (result : Result A B) → MatchResult result P (λ _. R) → MatchResult result P (λ _. Q ⊎ R)
+one-part P Q R (Ok value) holds = holds
+one-part P Q R (Err fault) holds = inr holds
 
 pub returns-clause-put : goal.returns-clause-put
 returns-clause-put g c count text tail holds =
-    let cleared = c.in_ok-clear.ensures.holds count text tail holds in
     let new = c.write.new.self in
-    match-ends (λ place. (place ≡ count) × Holds new (count + 1) (text ++ c.args.piece.now) [])
-    (Holds new count text tail ⊎ Holds new count text c.args.piece.now) c.write.result (c.write.ensures.put count text cleared)
-    (λ failed. inr (c.write.ensures.failed count text cleared failed))
+    one-part (λ place. (place ≡ count) × Holds new (count + 1) (text ++ c.args.piece.now) []) (Holds new count text tail)
+    (Holds new count text c.args.piece.now) c.write.result (c.write.ensures.put count text (c.in_ok-clear.ensures.holds count text tail holds))

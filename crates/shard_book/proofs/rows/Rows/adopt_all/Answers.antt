@@ -38,8 +38,8 @@ adopt-requires-clause-found c =
     (subst (λ (entry : Entry). IsLookedUp issuer entry (get_or ahead.found i found)) (sym entry_is)
     (zip-at (IsLookedUp issuer) ahead.entries ahead.found i entry found c.requires.found (omega (arith, ap length c.entries-entry-items.ensures))))
 
-pub returns-then-not-adopt-clause-stopped : goal.returns-then-not-adopt-clause-stopped
-returns-then-not-adopt-clause-stopped c history stands at_end legal =
+pub returns-then-not-adopt-clause-taken : goal.returns-then-not-adopt-clause-taken
+returns-then-not-adopt-clause-taken c history stands at_end legal =
     let entries : List Entry = c.args.ahead.now.entries in
     let i : ℕ = c.loop-i.i in
     let entry : Entry = c.entry-item.result in

@@ -8,8 +8,8 @@ use Rattle.shard_book.proofs.Lines.{stops-at}
 use Rattle.shard_book.proofs.ReadAhead.{no-entries, stops-within, takes-all}
 use Rattle.shard_book.proofs.rows.Rows.adopt_lines.Goals as goal
 
-pub returns-then-records-eq0-clause-stopped : goal.returns-then-records-eq0-clause-stopped
-returns-then-records-eq0-clause-stopped c history stands at_end legal =
+pub returns-then-records-eq0-clause-taken : goal.returns-then-records-eq0-clause-taken
+returns-then-records-eq0-clause-taken c history stands at_end legal =
     let text = c.args.text.now in
     let taken = c.lines.taken in
     let count : ℕ = c.in-Some.field-0 in
@@ -21,8 +21,8 @@ returns-then-records-eq0-clause-stopped c history stands at_end legal =
     (take count (drop taken.bytes text)) refl c.bad_line.result
     (inl (c.bad_line.ensures ∙ ap (bad_line c.args.version) place_is, c.read-end.ensures.none none count c.in-Some.ensures))
 
-pub returns-in-Err-clause-stopped : goal.returns-in-Err-clause-stopped
-returns-in-Err-clause-stopped c history stands at_end legal =
+pub returns-in-Err-clause-taken : goal.returns-in-Err-clause-taken
+returns-in-Err-clause-taken c history stands at_end legal =
     let version = c.args.version in
     let issuer = c.args.issuer.now in
     let shard = c.args.self.now.shard in
@@ -34,7 +34,7 @@ returns-in-Err-clause-stopped c history stands at_end legal =
     let whole = length-append history before.entries in omega (arith, whole, at_end, before.count_is) in
     stops-within version issuer shard history c.args.text.now taken c.lines.self before entries c.read-end.result c.read-end.ensures.next c.in-Err.fault
     (subst (λ (shard : ℕ). StopsWithin version issuer shard (history ++ before.entries) entries c.in-Err.fault) invariant.same.shard_is
-    (c.in-Err.ensures.stopped (history ++ before.entries) before.stands place_is
+    (c.in-Err.ensures.taken (history ++ before.entries) before.stands place_is
     (subst (λ (shard : ℕ). IsLegalHistory (grounds_in version issuer) shard (history ++ before.entries)) (sym invariant.same.shard_is) before.legal)))
 
 pub lines-preserved : goal.lines-preserved

@@ -1,7 +1,8 @@
 -- The records of one more part are replayed, or a line of it is bad.
-use Rattle.std.proofs.Common.{◌≡◌, ◌-◌, ℕ, min, List, Bool, length, take, drop, refl, sym, subst, arith, length-take}
-use Rattle.issuer_base.specs.OutsideFaults.{CountsFaults}
+use Rattle.std.proofs.Common.{◌≡◌, ◌-◌, ℕ, min, List, Bool, length, take, drop, refl, sym, subst, arith, length-take, true, false}
 use Rattle.journal_rec.specs.RecordText.{IsUnbroken}
+use Rattle.shard_book.specs.Loads.{Reads}
+use Rattle.shard_book.proofs.BothStores.{reads-from}
 use Rattle.shard_book.proofs.Loaded.{part-read, part-unbroken, reads-more, stops-more, own-count}
 use Rattle.shard_book.proofs.rows.Rows.adopt_part.Goals as goal
 
@@ -45,14 +46,23 @@ returns-in-Ok-adopt_lines-clause-end g c same =
     (part-read _ c.args.taken.bytes c.in-Ok.count c.read_from.new.into c.in-Ok.ensures.given chunk refl)
     (subst (λ n. IsUnbroken (drop n chunk)) none c.in-Ok-adopt_lines.ensures.rest)
 
-pub returns-in-Err-clause-stopped : goal.returns-in-Err-clause-stopped
-returns-in-Err-clause-stopped g c first front =
+pub returns-in-Err-clause-front : goal.returns-in-Err-clause-front
+returns-in-Err-clause-front g c first front =
     let chunk : List ℕ = take c.in-Ok.count c.read_from.new.into in
     stops-more c.args.version c.args.issuer.now c.args.self.now.shard first c.args.taken c.in-Ok.count chunk _ c.args.self.now c.in-Err.fault front
     (part-read _ c.args.taken.bytes c.in-Ok.count c.read_from.new.into c.in-Ok.ensures.given chunk refl)
-    (c.in-Err.ensures.stopped front.history front.stands front.count_is front.legal)
+    (c.in-Err.ensures.taken front.history front.stands front.count_is front.legal)
 
-pub returns-in-Err-clause-count : goal.returns-in-Err-clause-count
-returns-in-Err-clause-count g c =
-    subst (λ (failed : Bool). CountsFaults (g.S.Store.faults c.args.store.now) (g.S.Store.faults c.read_from.new.store) failed)
-    (sym (own-count c.in-Err.fault c.in-Err.ensures.own)) c.in-Ok.ensures.count
+pub returns-in_default-clause-read : goal.returns-in_default-clause-read
+returns-in_default-clause-read g c =
+    reads-from g.S.Store true _ _ c.read_from.ensures.size c.read_from.ensures.bytes c.read_from.ensures.disk c.in_default.ensures.room c.in_default.ensures.count
+
+pub returns-in-Ok-adopt_lines-clause-read : goal.returns-in-Ok-adopt_lines-clause-read
+returns-in-Ok-adopt_lines-clause-read g c =
+    reads-from g.S.Store false _ _ c.read_from.ensures.size c.read_from.ensures.bytes c.read_from.ensures.disk c.in-Ok.ensures.room c.in-Ok.ensures.count
+
+pub returns-in-Err-clause-read : goal.returns-in-Err-clause-read
+returns-in-Err-clause-read g c =
+    subst (λ (failed : Bool). Reads g.S.Store.size g.S.Store.bytes g.S.Store.disk g.S.Store.room g.S.Store.faults failed c.args.store.now
+    c.read_from.new.store) (sym (own-count c.in-Err.fault c.in-Err.ensures.own))
+    (reads-from g.S.Store false _ _ c.read_from.ensures.size c.read_from.ensures.bytes c.read_from.ensures.disk c.in-Ok.ensures.room c.in-Ok.ensures.count)

@@ -13,6 +13,7 @@ use Rattle.row_core.specs.Known.{IsKnown}
 use Rattle.row_core.specs.Plan.{IsNext}
 use Rattle.shard_book.proofs.LegalNext.{card-found, legal-decision}
 use Rattle.shard_book.specs.Grounds.{grounds_now}
+use Rattle.shard_book.specs.Calls.{MayRecord}
 use Rattle.shard_book.specs.Shards.{StandsFor}
 use Rattle.shard_book.proofs.ShardSteps.{crash-no_call}
 use Rattle.shard_book.proofs.shard.Shard.answer.Given.{Over}
@@ -91,13 +92,24 @@ legal g c history stands =
     c.requires.at_hand.card_is c.requires.home history found.request c.decide-launch.new.reply refl c.requires.checked_is
     (unused g c history stands) (c.decide-launch.ensures.reply history stands.rows_stand)
 
+-- so it may be recorded
+may-record : (g : Over) (c : After-decide-launch g) (history : List Entry) → StandsFor c.args.issuer.now c.args.self.now history
+    → MayRecord c.args.issuer.now c.args.self.now c.args.found.now c.decide-launch.new.reply history
+may-record g c history stands =
+    let card = card-found c.args.issuer.now (card_of c.args.found.now.request) c.args.found.now.card c.requires.at_hand.card_is in
+    record {
+      stands = stands;
+      card = card.card;
+      card_is = card.known;
+      next = next g c history card.card stands card.named;
+      legal = legal g c history stands;
+    }
+
 pub returns-clause-answer : goal.returns-clause-answer
 returns-clause-answer g c history stands =
     let decided_here = (goal.at.returns-clause-answer g c).After-decide-launch in
     let request = c.args.found.now.request in
-    let card = card-found c.args.issuer.now (card_of request) c.args.found.now.card c.requires.at_hand.card_is in
-    let added = c.in-Ok.ensures.added c.args.issuer.now card.card history stands card.known (next g decided_here history card.card stands card.named)
-    (legal g decided_here history stands) in (
+    let added = c.in-Ok.ensures.added c.args.issuer.now history (may-record g decided_here history stands) in (
       history ++ Decided request c.decide-launch.new.reply ∷ [],
       added.1,
       (
@@ -108,19 +120,17 @@ returns-clause-answer g c history stands =
 
 pub returns-in_default-clause-answer : goal.returns-in_default-clause-answer
 returns-in_default-clause-answer g c history stands =
-    let decided_here = (goal.at.returns-in_default-clause-answer g c).After-decide-launch in
-    let card = card-found c.args.issuer.now (card_of c.args.found.now.request) c.args.found.now.card c.requires.at_hand.card_is in (
+    let decided_here = (goal.at.returns-in_default-clause-answer g c).After-decide-launch in (
       history,
-      c.in_default.ensures.added c.args.issuer.now card.card history stands card.known (next g decided_here history card.card stands card.named)
-          (legal g decided_here history stands),
+      c.in_default.ensures.added c.args.issuer.now history (may-record g decided_here history stands),
       (c.if-not-won.false, unused g decided_here history stands, refl),
     )
 
 pub returns-clause-crash : goal.returns-clause-crash
 returns-clause-crash g c history stands =
-    c.add_decision.ensures.crash c.args.issuer.now history stands (legal g (goal.at.returns-clause-crash g c).After-decide-launch history stands)
+    c.add_decision.ensures.crash c.args.issuer.now history (may-record g (goal.at.returns-clause-crash g c).After-decide-launch history stands)
 
 pub returns-in_default-clause-crash : goal.returns-in_default-clause-crash
 returns-in_default-clause-crash g c history stands =
-    c.add_decision.ensures.crash c.args.issuer.now history stands
-    (legal g (goal.at.returns-in_default-clause-crash g c).After-decide-launch history stands)
+    c.add_decision.ensures.crash c.args.issuer.now history
+    (may-record g (goal.at.returns-in_default-clause-crash g c).After-decide-launch history stands)

@@ -19,10 +19,14 @@ returns-clause-crash g c history tail entry its holds =
     (g.S.Store.disk c.args.self.now.journal.store) (g.S.Store.disk c.put-written.new.self.store)) its
     (c.put-written.ensures.crash (length history) (journal_text history) tail holds)
 
-pub returns-clause-undoubted : goal.returns-clause-undoubted
-returns-clause-undoubted g c none =
-    put-undoubted c.args.self.now.reported c.put-written.new.self c.put-written.result c.put-written.ensures.settled
-    (ap (reported_after c.args.self.now.reported) (sym c.is_err.ensures.value) ∙ sym c.reported_after-self.ensures ∙ none)
+pub returns-clause-counts : goal.returns-clause-counts
+returns-clause-counts g c =
+    let told = ap (reported_after c.args.self.now.reported) (sym c.is_err.ensures.value) ∙ sym c.reported_after-self.ensures in
+    record {
+      counts = c.put-written.ensures.count;
+      told_is = sym told;
+      undoubted = λ none. put-undoubted c.args.self.now.reported c.put-written.new.self c.put-written.result c.put-written.ensures.settled (told ∙ none);
+    }
 
 pub returns-clause-room : goal.returns-clause-room
 returns-clause-room g c spare has =

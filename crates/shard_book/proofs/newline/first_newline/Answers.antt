@@ -1,6 +1,6 @@
--- The first newline ends the next line.
+-- The first newline.
 use Rattle.shard_book.proofs.Lines.{line-found}
-use Rattle.journal_reader.proofs.newline.first_newline.Goals as goal
+use Rattle.shard_book.proofs.newline.first_newline.Goals as goal
 
 pub returns : goal.returns
 returns c = line-found _ _ c.memchr.ensures
