@@ -43,11 +43,6 @@ module _ {S : Type 0} (G : Ghosts S) where
   pub length-more : (xs : List S) (x : S) → length (xs ++ x ∷ []) ≡ length xs + 1
   length-more xs x = length-append xs (x ∷ [])
 
-  -- no journal is opened yet
-  pub opened-none : (name : ℕ → List ℕ) (logs : Logged) (stores : List S) → stores ≡ [] → AreOpened G name logs stores
-  opened-none name logs stores none shard store is =
-      absurd (let e : None ≡ Some store = sym (ap (λ (l : List S). slice_get l shard) none) ∙ is in cc)
-
   -- one more is
   pub opened-more : (name : ℕ → List ℕ) (logs : Logged) (stores : List S) (store : S) (shard : ℕ) (held : Option (List ℕ))
       → AreOpened G name logs stores

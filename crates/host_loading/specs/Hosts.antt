@@ -22,7 +22,7 @@ module _ {S : Type 0} {G : Ghosts S} where
   pub record StandsForBook (issuer : Setup) (shard : Shard S G) (book : ShardBook) : Type 0 where
     pub stands : StandsFor issuer shard book.history
     pub faults_are : faults_in shard ≡ book.faults
-    pub told_are : reported_in shard ≡ book.reported
+    pub reported_are : reported_in shard ≡ book.reported
     pub settled : book.reported ≡ 0 → Holds shard.journal (length book.history) (journal_text book.history) []
 
   -- the shards stand for the books, each for the one with its number

@@ -23,7 +23,7 @@ use Rattle.journal_reader.specs.Filing.{CountAt, HasRecords, HoldsHistory}
 use Rattle.journal_reader.proofs.FiledStores.{each-set, get-front, get-last}
 use Rattle.journal_reader.specs.declared.export.ExportFault.{ExportFault}
 use Rattle.journal_reader.specs.declared.export.ExportFault.TheVariants.{WriteFault as SinkFault, Unread}
-use Rattle.journal_reader.specs.Exporting.{Exports, ExportsAll, ExportsFirst, ExportsJournal, HasFirstRecords, IsPut, IsSparedIn}
+use Rattle.journal_reader.specs.Exporting.{Exports, ExportsFirst, ExportsJournal, HasFirstRecords, IsPut, IsSparedIn}
 use Rattle.journal_reader.specs.Exporting.{IsSparedJournal, Puts, fails_at, feed_in, feed_text, read_failed, write_failed}
 use Rattle.journal_reader.proofs.Exported.{feed-all-more, put-front, put-more, put-none}
 
@@ -52,16 +52,6 @@ module _ {S : Type 0} (G : Ghosts S) where
     counts = λ number was is was_is is_is.
         subst (λ (s : S). CountsFaults (G.faults was) (G.faults s) false) (same_Some was is (sym was_is ∙ is_is))
         (CountsFaults-no_call (G.faults was));
-  }
-
-  -- all are put
-  pub puts-all : (olds read : List S) (shard : ℕ) (before now : Option (List ℕ)) (left : List ℕ)
-      → ArePut olds read shard before now left → shard ≡ length olds
-      → ExportsAll G.bytes olds (IsPut before now [] left)
-  puts-all olds read shard before now left so_far all = record {
-    histories = so_far.histories;
-    have = record { count_is = so_far.count_is ∙ all; each = so_far.each };
-    written = so_far.put;
   }
 
   module _ (olds read : List S) (shard : ℕ) (before mid : Option (List ℕ)) (due : List ℕ)

@@ -83,10 +83,6 @@ home-filed issuer shard place (Decided request reply) home =
     home-option issuer shard place request reply (number_of (card_of request) issuer.cards) home
 
 module _ (issuer : Setup) (shard : ℕ) where
-  -- records of the shards before
-  pub before-later : (records : List Filed) → AreBefore issuer shard records → AreBefore issuer (shard + 1) records
-  before-later records before = λ k default within. let less = before k default within in omega (arith, less)
-
   -- and one of this shard
   pub before-more : (records : List Filed) (place : ℕ) (entry : Entry) (others : List Filed)
       → fits issuer shard others entry ≡ true → AreBefore issuer (shard + 1) records
@@ -204,11 +200,6 @@ pub record HasFiled (issuer : Setup) (shard : ℕ) (bytes : Option (List ℕ)) (
   pub filed_are : now ≡ old ++ filed_in issuer shard history
 
 module _ (issuer : Setup) (shard : ℕ) (bytes : Option (List ℕ)) (old now : List Filed) (reader : RecordReader) (place : ℕ) where
-  -- none was read
-  pub filed-none : now ≡ old → HasRead reader bytes [] → place ≡ 0
-      → HasFiled issuer shard bytes old now reader place
-  filed-none same read none = record { history = []; read = read; place_is = none; filed_are = same ∙ sym (append-nil old) }
-
   -- one more
   pub filed-next : (so_far : HasFiled issuer shard bytes old now reader place) (entry : Entry) (next : RecordReader) (then : List Filed)
       → HasRead next bytes (so_far.history ++ entry ∷ []) → then ≡ now ++ filed_of issuer shard place entry

@@ -18,7 +18,7 @@ use Rattle.host_loading.proofs.Places.{read-other, read-written}
 use Rattle.clearing_check.specs.declared.filed.Filed.{Filed}
 use Rattle.journal_reader.specs.declared.filing.FilingFault.{FilingFault}
 use Rattle.journal_reader.specs.declared.filing.NotFiled.{NotFiled}
-use Rattle.journal_reader.specs.Filing.{AreBefore, CountAt, FilesAll, FilesJournal, HasRecords, IsSpared, filed_in, filed_records}
+use Rattle.journal_reader.specs.Filing.{AreBefore, CountAt, FilesJournal, HasRecords, IsSpared, filed_in, filed_records}
 use Rattle.journal_reader.specs.Filing.{HoldsHistory, fails_at, is_bad, is_store_fault}
 use Rattle.journal_reader.proofs.Filed.{all-more}
 
@@ -161,12 +161,3 @@ module _ {S : Type 0} (G : Ghosts S) (issuer : Setup) where
       spares exact = λ store history store_is holds.
           let its : store ≡ old = same_Some store old (sym store_is ∙ first_is) in
           exact history (subst (λ (s : S). HoldsHistory issuer shard (G.bytes s) history) its holds) so_far.before
-
-  -- all are filed
-  pub files-all : (olds read : List S) (shard : ℕ) (book : List Filed) → AreFiled olds read shard book
-      → shard ≡ length olds → FilesAll G.bytes issuer olds book
-  files-all olds read shard book filed all = record {
-    histories = filed.histories;
-    have = record { count_is = filed.count_is ∙ all; each = filed.each };
-    filed_are = filed.filed_are;
-  }

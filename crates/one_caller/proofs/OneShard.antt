@@ -64,7 +64,7 @@ module _ {S : Type 0} {G : Ghosts S} where
   stands-for_book issuer shard history stands undoubted = record {
     stands = stands;
     faults_are = refl;
-    told_are = refl;
+    reported_are = refl;
     settled = λ untold.
         subst (λ (tail : List ℕ). Holds shard.journal (length history) (journal_text history) tail)
         (stands.journal_holds.holds.tail_is (undoubted untold)) stands.journal_holds.holds;
@@ -169,7 +169,7 @@ module _ {S : Type 0} {G : Ghosts S} where
               old_is = subst (λ number. slice_get books number ≡ Some book) called.home_is found.1;
               changes = subst (λ number. Changes number book.history answered.0) number_is answered.2;
               counts = subst (λ faults. CountsFaults faults (faults_in new) (is_store_fault answer)) its.faults_are called.keeps.counts;
-              told_is = called.keeps.told_is ∙ ap (λ told. reported_after told (is_store_fault answer)) its.told_are;
+              told_is = called.keeps.told_is ∙ ap (λ told. reported_after told (is_store_fault answer)) its.reported_are;
               after_is = ap (λ number. set books number after) called.home_is;
             },
           )

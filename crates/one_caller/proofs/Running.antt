@@ -56,7 +56,7 @@ module _ {S : Type 0} {G : Ghosts S} where
   stands-loaded issuer number old old_then store shard from = record {
     stands = from.loaded.stands;
     faults_are = refl;
-    told_are = from.untold;
+    reported_are = from.untold;
     settled = λ untold. from.loaded.settled;
   }
 

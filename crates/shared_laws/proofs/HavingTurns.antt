@@ -137,14 +137,6 @@ module _ {L A : Type 0} (items_of : L → List A) where
       ap (every (length lanes) number) (append-nil before) ∙ sym (append-nil (every (length lanes) number before))
       ∙ ap (λ (mine : List A). every (length lanes) number before ++ mine) (sym (none number lane lane_is))
 
-  -- each has nothing where nothing is dealt
-  pub turns-empty : (lanes : List L) (before : List A) → HaveTurns items_of lanes before [] → (number : ℕ) (lane : L)
-      → slice_get lanes number ≡ Some lane → items_of lane ≡ []
-  turns-empty lanes before have number lane lane_is =
-      sym
-      (append_cancel_left (every (length lanes) number before) [] (items_of lane)
-      (append-nil (every (length lanes) number before) ∙ ap (every (length lanes) number) (sym (append-nil before)) ∙ have number lane lane_is))
-
   -- the lane whose turn it is has room while there is room for all
   pub turns-room : (lanes : List L) (before items : List A) (place room : ℕ) (lane : L) → slice_get lanes place ≡ Some lane
       → place ≡ length (before ++ items) % length lanes → HaveTurns items_of lanes before items → length items < length lanes * room

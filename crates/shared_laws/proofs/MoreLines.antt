@@ -1,4 +1,4 @@
--- A caller's calls, line by line: none yet, one more, and the one with a number.
+-- A caller's calls, line by line: one more, and the one with a number.
 use Rattle.std.proofs.Common.{◌≡◌, ℕ, zero, suc, List, [], ◌∷◌, ◌++◌, take, drop, Some, refl, subst}
 use Rattle.std.proofs.lemmas.Option.{same_Some, none-some}
 use Rattle.std.specs.List.{slice_get}
@@ -13,10 +13,6 @@ use Rattle.shared_laws.specs.Authorising.{Authorises}
 use Rattle.shared_laws.specs.Callers.{AuthorisesAll}
 
 module _ (issuer : Setup) where
-  -- a caller that has made no call
-  pub calls-none : (claims : ClaimView) (logs : TurnView LogItem LogHead) → AuthorisesAll issuer [] [] claims logs claims logs
-  calls-none claims logs = (refl, refl)
-
   -- one line more, after the others
   pub calls-more : (lines : List (List ℕ)) (answers : List Answer) (claims : ClaimView) (logs : TurnView LogItem LogHead) (claims_then : ClaimView)
       (logs_then : TurnView LogItem LogHead) (line : List ℕ) (answer : Answer) (claims_now : ClaimView) (logs_now : TurnView LogItem LogHead)

@@ -87,13 +87,13 @@ impl<S: Store> ShardTurns<S> {
     {
         let number = issuer.shard_of(found.card);
         let LockedShard { mut shard } = self.turns.enter(rt, seat, number);
-        let told = shard.faults();
+        let reported = shard.faults();
         let answer = shard.answer(issuer, found, won);
         let called = Called {
             shard,
             call: Call::Decide(found),
             answer: &answer,
-            reported: told,
+            reported,
         };
         self.end_turn(seat, number, called);
         answer
@@ -115,13 +115,13 @@ impl<S: Store> ShardTurns<S> {
     {
         let number = issuer.shard_of(found.card());
         let LockedShard { mut shard } = self.turns.enter(rt, seat, number);
-        let told = shard.faults();
+        let reported = shard.faults();
         let answer = shard.order(issuer, found);
         let called = Called {
             shard,
             call: Call::Order(found),
             answer: &answer,
-            reported: told,
+            reported,
         };
         self.end_turn(seat, number, called);
         answer

@@ -20,7 +20,7 @@ standing g c = has-found _ _ c.requires.turns _ _ c.enter-shard.result c.enter-s
 call : (g : Over) (c : After-answer-answer g) → IsCalledInTurn c.args.issuer.now
     (λ n old new. AnswersClaimed n (reply_to c.args.issuer.now) c.args.won old c.args.found.now.request c.answer-answer.result new)
     (view_of c.enter-shard.new.seat).seen c.shard_of-number.result c.enter-shard.result.shard c.answer-answer.new.self c.answer-answer.result
-    (decided_by c.args.found.now.request c.answer-answer.result) c.faults-told.result
+    (decided_by c.args.found.now.request c.answer-answer.result) c.faults-reported.result
 call g c =
     let issuer = c.args.issuer.now in
     let number : ℕ = c.shard_of-number.result in
@@ -32,7 +32,7 @@ call g c =
       answers = c.answer-answer.ensures.answer;
       recording = λ history after.
           claimed-answered issuer number history after c.args.won request c.answer-answer.result home c.requires.checked;
-      told_is = c.faults-told.ensures;
+      told_is = c.faults-reported.ensures;
     }
 
 pub answer-answer-requires : goal.answer-answer-requires

@@ -24,7 +24,7 @@ home g c = c.shard_of-number.ensures.number ∙ ap (λ (card : ℕ). card % c.ar
 call : (g : Over) (c : After-order-answer g) → IsCalledInTurn c.args.issuer.now
     (λ n old new. AnswersOrder n old (order_asked c.args.found.now) c.order-answer.result new)
     (view_of c.enter-shard.new.seat).seen c.shard_of-number.result c.enter-shard.result.shard c.order-answer.new.self c.order-answer.result
-    (recorded_by (record_of c.args.found.now) c.order-answer.result) c.faults-told.result
+    (recorded_by (record_of c.args.found.now) c.order-answer.result) c.faults-reported.result
 call g c =
     let issuer = c.args.issuer.now in
     let number : ℕ = c.shard_of-number.result in
@@ -39,7 +39,7 @@ call g c =
       recording = λ history after.
           order-answered issuer number history after order c.order-answer.result
           (card-of_shard issuer (card_of_order order) (number_of_order order) number known here) c.requires.at_hand;
-      told_is = c.faults-told.ensures;
+      told_is = c.faults-reported.ensures;
     }
 
 pub order-answer-requires : goal.order-answer-requires
