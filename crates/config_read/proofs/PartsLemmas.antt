@@ -14,7 +14,8 @@ use Rattle.issuer_setup.specs.KeyList.{first_repeat, bad_key}
 use Rattle.issuer_setup.specs.CardList.{first_bad, bad_card}
 use Rattle.issuer_setup.proofs.CardListLemmas.{bad_card-sized}
 use Rattle.issuer_setup.proofs.KeyListLemmas.{bad_key-some}
-use Rattle.config_read.specs.declared.fault.TheConstants.{KEYS, CARDS}
+use Rattle.config_read.specs.declared.fault.ConfigPart.{ConfigPart}
+use Rattle.config_read.specs.declared.fault.ConfigPart.TheVariants.{Keys, Cards}
 use Rattle.config_read.specs.declared.fault.ConfigFault.TheVariants.{At}
 use Rattle.config_read.specs.Elements.{key_set_in, card_in}
 use Rattle.config_read.specs.Parts.{◌>>=◌, front, part_elements, said_by, unless_broken, keys_in, cards_in}
@@ -24,7 +25,7 @@ use Rattle.config_read.proofs.FrontLemmas.{silent_at-front, length-front-le}
 abbrev pub broken_place : Option ℕ → ℕ → ℕ → Option ℕ
 broken_place conflict found elements = option_or conflict (if nat_lt found elements then Some found else None)
 
-said_by-found : {A : Type 0} (part : ℕ) (said : Data → Option A) (conflict : List A → Option ℕ) (elements : List Value) (found : List A)
+said_by-found : {A : Type 0} (part : ConfigPart) (said : Data → Option A) (conflict : List A → Option ℕ) (elements : List Value) (found : List A)
     → found ≡ front said (map view elements)
     → said_by part said conflict (map view elements) ≡ unless_broken part (broken_place (conflict found) (length found) (length elements)) found
 said_by-found part said conflict elements found is =
@@ -33,14 +34,14 @@ said_by-found part said conflict elements found is =
     rw (silent, count, ← is) refl
 
 -- a part that is broken at this element
-pub said_by-broken : {A : Type 0} (part : ℕ) (said : Data → Option A) (conflict : List A → Option ℕ) (elements : List Value) (found : List A) (place : ℕ)
+pub said_by-broken : {A : Type 0} (part : ConfigPart) (said : Data → Option A) (conflict : List A → Option ℕ) (elements : List Value) (found : List A) (place : ℕ)
     → found ≡ front said (map view elements) → broken_place (conflict found) (length found) (length elements) ≡ Some place
     → said_by part said conflict (map view elements) ≡ Err (At part (place + 1))
 said_by-broken part said conflict elements found place is broken =
     said_by-found part said conflict elements found is ∙ ap (λ place. unless_broken part place found) broken
 
 -- and one that isn't broken
-pub said_by-whole : {A : Type 0} (part : ℕ) (said : Data → Option A) (conflict : List A → Option ℕ) (elements : List Value) (found : List A)
+pub said_by-whole : {A : Type 0} (part : ConfigPart) (said : Data → Option A) (conflict : List A → Option ℕ) (elements : List Value) (found : List A)
     → found ≡ front said (map view elements) → broken_place (conflict found) (length found) (length elements) ≡ None
     → said_by part said conflict (map view elements) ≡ Ok found
 said_by-whole part said conflict elements found is whole =
@@ -79,25 +80,25 @@ no-repeat : (keys : List KeySet) → bad_key keys ≡ None → first_repeat [] k
 no-repeat [] good = refl
 no-repeat (set ∷ keys) good = sym (bad_key-some (set ∷ keys) (omega arith)) ∙ good
 
-module _ (value : Data) (elements : List Value) (keys : List KeySet) (is : part_elements KEYS (codes "keys") MAX_KEY_SETS value ≡ Ok (map view elements))
+module _ (value : Data) (elements : List Value) (keys : List KeySet) (is : part_elements Keys (codes "keys") MAX_KEY_SETS value ≡ Ok (map view elements))
     (found : keys ≡ front key_set_in (map view elements)) where
-  keys_in-elements : keys_in value ≡ said_by KEYS key_set_in (first_repeat []) (map view elements)
-  keys_in-elements = ap (λ these. these >>= said_by KEYS key_set_in (first_repeat [])) is
+  keys_in-elements : keys_in value ≡ said_by Keys key_set_in (first_repeat []) (map view elements)
+  keys_in-elements = ap (λ these. these >>= said_by Keys key_set_in (first_repeat [])) is
 
-  pub keys_in-refused : (place : ℕ) → 1 ≤ length elements → bad_key keys ≡ Some place → keys_in value ≡ Err (At KEYS (place + 1))
+  pub keys_in-refused : (place : ℕ) → 1 ≤ length elements → bad_key keys ≡ Some place → keys_in value ≡ Err (At Keys (place + 1))
   keys_in-refused place some bad =
-      keys_in-elements ∙ said_by-broken KEYS key_set_in (first_repeat []) elements keys place found (repeat-place keys (length elements) place some bad)
+      keys_in-elements ∙ said_by-broken Keys key_set_in (first_repeat []) elements keys place found (repeat-place keys (length elements) place some bad)
 
-  pub keys_in-silent : bad_key keys ≡ None → length keys < length elements → keys_in value ≡ Err (At KEYS (length keys + 1))
+  pub keys_in-silent : bad_key keys ≡ None → length keys < length elements → keys_in value ≡ Err (At Keys (length keys + 1))
   keys_in-silent good fewer =
       keys_in-elements
-      ∙ said_by-broken KEYS key_set_in (first_repeat []) elements keys (length keys) found
+      ∙ said_by-broken Keys key_set_in (first_repeat []) elements keys (length keys) found
       (silent-place (first_repeat [] keys) (length keys) (length elements) (no-repeat keys good) fewer)
 
   pub keys_in-whole : bad_key keys ≡ None → length elements ≤ length keys → keys_in value ≡ Ok keys
   keys_in-whole good all =
       keys_in-elements
-      ∙ said_by-whole KEYS key_set_in (first_repeat []) elements keys found
+      ∙ said_by-whole Keys key_set_in (first_repeat []) elements keys found
       (whole-place (first_repeat [] keys) (length keys) (length elements) (no-repeat keys good) all)
 
 -- ---- cards
@@ -116,23 +117,23 @@ no-bad [] few good = refl
 no-bad (card ∷ cards) few good = sym (bad_card-sized (card ∷ cards) (omega arith) few) ∙ good
 
 module _ (value : Data) (elements : List Value) (cards : List CardInfo)
-    (is : part_elements CARDS (codes "cards") MAX_CARDS value ≡ Ok (map view elements)) (found : cards ≡ front card_in (map view elements))
+    (is : part_elements Cards (codes "cards") MAX_CARDS value ≡ Ok (map view elements)) (found : cards ≡ front card_in (map view elements))
     (few : length cards ≤ MAX_CARDS) where
-  cards_in-elements : cards_in value ≡ said_by CARDS card_in (first_bad []) (map view elements)
-  cards_in-elements = ap (λ these. these >>= said_by CARDS card_in (first_bad [])) is
+  cards_in-elements : cards_in value ≡ said_by Cards card_in (first_bad []) (map view elements)
+  cards_in-elements = ap (λ these. these >>= said_by Cards card_in (first_bad [])) is
 
-  pub cards_in-refused : (place : ℕ) → 1 ≤ length elements → bad_card cards ≡ Some place → cards_in value ≡ Err (At CARDS (place + 1))
+  pub cards_in-refused : (place : ℕ) → 1 ≤ length elements → bad_card cards ≡ Some place → cards_in value ≡ Err (At Cards (place + 1))
   cards_in-refused place some bad =
-      cards_in-elements ∙ said_by-broken CARDS card_in (first_bad []) elements cards place found (bad-place cards (length elements) place some few bad)
+      cards_in-elements ∙ said_by-broken Cards card_in (first_bad []) elements cards place found (bad-place cards (length elements) place some few bad)
 
-  pub cards_in-silent : bad_card cards ≡ None → length cards < length elements → cards_in value ≡ Err (At CARDS (length cards + 1))
+  pub cards_in-silent : bad_card cards ≡ None → length cards < length elements → cards_in value ≡ Err (At Cards (length cards + 1))
   cards_in-silent good fewer =
       cards_in-elements
-      ∙ said_by-broken CARDS card_in (first_bad []) elements cards (length cards) found
+      ∙ said_by-broken Cards card_in (first_bad []) elements cards (length cards) found
       (silent-place (first_bad [] cards) (length cards) (length elements) (no-bad cards few good) fewer)
 
   pub cards_in-whole : bad_card cards ≡ None → length elements ≤ length cards → cards_in value ≡ Ok cards
   cards_in-whole good all =
       cards_in-elements
-      ∙ said_by-whole CARDS card_in (first_bad []) elements cards found
+      ∙ said_by-whole Cards card_in (first_bad []) elements cards found
       (whole-place (first_bad [] cards) (length cards) (length elements) (no-bad cards few good) all)

@@ -6,7 +6,7 @@ use Rattle.serde_json.specs.Data.{Data}
 use Rattle.issuer_setup.specs.Shards.{are_shards, shards_from}
 use Rattle.config_read.specs.declared.fault.ConfigFault.{ConfigFault}
 use Rattle.config_read.specs.declared.fault.ConfigFault.TheVariants.{At}
-use Rattle.config_read.specs.declared.fault.TheConstants.{SHARDS}
+use Rattle.config_read.specs.declared.fault.ConfigPart.TheVariants.{Shards}
 use Rattle.config_read.specs.Json.{number_member}
 use Rattle.config_read.specs.Parts.{shards_in}
 
@@ -26,4 +26,4 @@ found-valid fault (Some count) shards is =
     ]
 
 pub shards_in-valid : (value : Data) (shards : ℕ) → shards_in value ≡ Ok shards → are_shards shards ≡ true
-shards_in-valid value shards is = found-valid (At SHARDS 0) (number_member (codes "shards") value) shards is
+shards_in-valid value shards is = found-valid (At Shards 0) (number_member (codes "shards") value) shards is

@@ -11,7 +11,7 @@ use Rattle.serde_json.specs.declared.value.Value.{Value}
 use Rattle.issuer_base.specs.declared.limits.TheConstants.{MAX_TABLE_ROWS}
 use Rattle.decision_table.specs.declared.row.TableRow.{TableRow}
 use Rattle.decision_table.specs.Tables.{tells_approval, ends_in_all, is_table, table_from}
-use Rattle.config_read.specs.declared.fault.TheConstants.{TABLE}
+use Rattle.config_read.specs.declared.fault.ConfigPart.TheVariants.{Table}
 use Rattle.config_read.specs.declared.fault.ConfigFault.TheVariants.{At}
 use Rattle.config_read.specs.Elements.{row_in}
 use Rattle.config_read.specs.Parts.{◌>>=◌, front, in_front, no_conflict, part_elements, said_by, table_in, where_last_takes_all}
@@ -42,22 +42,22 @@ table_from-front elements rows found = table_from-told rows (ap (list_all tells_
 -- ---- the part
 
 module _ (value : Data) (elements : List Value) (rows : List TableRow)
-    (is : part_elements TABLE (codes "table") MAX_TABLE_ROWS value ≡ Ok (map view elements)) (found : rows ≡ front row_in (map view elements)) where
-  table_in-elements : table_in value ≡ (said_by TABLE row_in no_conflict (map view elements) >>= where_last_takes_all)
-  table_in-elements = ap (λ these. these >>= said_by TABLE row_in no_conflict >>= where_last_takes_all) is
+    (is : part_elements Table (codes "table") MAX_TABLE_ROWS value ≡ Ok (map view elements)) (found : rows ≡ front row_in (map view elements)) where
+  table_in-elements : table_in value ≡ (said_by Table row_in no_conflict (map view elements) >>= where_last_takes_all)
+  table_in-elements = ap (λ these. these >>= said_by Table row_in no_conflict >>= where_last_takes_all) is
 
   -- an element that says nothing
-  pub table_in-silent : length rows < length elements → table_in value ≡ Err (At TABLE (length rows + 1))
+  pub table_in-silent : length rows < length elements → table_in value ≡ Err (At Table (length rows + 1))
   table_in-silent fewer =
       table_in-elements
       ∙ ap (λ said. said >>= where_last_takes_all)
-      (said_by-broken TABLE row_in no_conflict elements rows (length rows) found (silent-place None (length rows) (length elements) refl fewer))
+      (said_by-broken Table row_in no_conflict elements rows (length rows) found (silent-place None (length rows) (length elements) refl fewer))
 
   table_in-rows : length elements ≤ length rows → table_in value ≡ where_last_takes_all rows
   table_in-rows all =
       table_in-elements
       ∙ ap (λ said. said >>= where_last_takes_all)
-      (said_by-whole TABLE row_in no_conflict elements rows found (whole-place None (length rows) (length elements) refl all))
+      (said_by-whole Table row_in no_conflict elements rows found (whole-place None (length rows) (length elements) refl all))
 
   -- rows that are a table
   pub table_in-whole : (table : List TableRow) → length elements ≤ length rows → Some table ≡ table_from rows → table_in value ≡ Ok table
@@ -65,7 +65,7 @@ module _ (value : Data) (elements : List Value) (rows : List TableRow)
       let it : Some table ≡ (if ends_in_all rows then Some rows else None) = taken ∙ table_from-front (map view elements) rows found in
       table_in-rows all
       ∙ elim (ends_in_all rows) as
-      (λ last. Some table ≡ (if last then Some rows else None) → (if last then Ok rows else Err (At TABLE (length rows))) ≡ Ok table) [
+      (λ last. Some table ≡ (if last then Some rows else None) → (if last then Ok rows else Err (At Table (length rows))) ≡ Ok table) [
         | true ↦ λ same. grind (arith, same)
         | false ↦ λ none. cc none
       ] it
@@ -77,12 +77,12 @@ module _ (value : Data) (elements : List Value) (rows : List TableRow)
       omega (arith, few, all)
 
   -- rows whose last doesn't take all
-  pub table_in-last : length elements ≤ length rows → None ≡ table_from rows → table_in value ≡ Err (At TABLE (length elements))
+  pub table_in-last : length elements ≤ length rows → None ≡ table_from rows → table_in value ≡ Err (At Table (length elements))
   table_in-last all refused =
       let it : None ≡ (if ends_in_all rows then Some rows else None) = refused ∙ table_from-front (map view elements) rows found in
       table_in-rows all
       ∙ elim (ends_in_all rows) as
-      (λ last. None ≡ (if last then Some rows else None) → (if last then Ok rows else Err (At TABLE (length rows))) ≡ Err (At TABLE (length elements))) [
+      (λ last. None ≡ (if last then Some rows else None) → (if last then Ok rows else Err (At Table (length rows))) ≡ Err (At Table (length elements))) [
         | true ↦ λ some. cc some
-        | false ↦ λ none. ap (λ count. Err (At TABLE count)) (rows-count all)
+        | false ↦ λ none. ap (λ count. Err (At Table count)) (rows-count all)
       ] it

@@ -7,7 +7,7 @@ use Rattle.issuer_setup.specs.KeyList.{AreKeys}
 use Rattle.issuer_setup.specs.CardList.{AreCards}
 use Rattle.issuer_setup.specs.IssuerSetup.{Setup}
 use Rattle.config_read.specs.declared.config.TheConstants.{MAX_CONFIG_BYTES}
-use Rattle.config_read.specs.declared.fault.TheConstants.{WHOLE}
+use Rattle.config_read.specs.declared.fault.ConfigPart.TheVariants.{Whole}
 use Rattle.config_read.specs.declared.fault.ConfigFault.{ConfigFault}
 use Rattle.config_read.specs.declared.fault.ConfigFault.TheVariants.{NotJson, At}
 use Rattle.config_read.specs.Json.{json_of}
@@ -15,7 +15,7 @@ use Rattle.config_read.specs.Parts.{◌>>=◌, shards_in, keys_in, cards_in, tab
 
 -- a value, if it is an object
 abbrev pub object_in : Data → Result Data ConfigFault
-object_in value = if is_some (as_object value) then Ok value else Err (At WHOLE 0)
+object_in value = if is_some (as_object value) then Ok value else Err (At Whole 0)
 
 -- what an object is parsed as: its parts, checked in order; other members are ignored
 abbrev pub setup_in : Data → Result Setup ConfigFault
@@ -34,7 +34,7 @@ where_json (Some value) = setup_in value
 
 -- what a configuration of these bytes is parsed as; its length, at most 4,194,304, is checked first
 unfoldable pub configured : List ℕ → Result Setup ConfigFault
-configured bytes = if nat_le (length bytes) MAX_CONFIG_BYTES then where_json (json_of bytes) else Err (At WHOLE 0)
+configured bytes = if nat_le (length bytes) MAX_CONFIG_BYTES then where_json (json_of bytes) else Err (At Whole 0)
 
 -- a parsed issuer has 1 to 16 shards, and valid key sets and cards
 pub record HasValidParts (issuer : Setup) : Type 0 where

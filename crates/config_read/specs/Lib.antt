@@ -5,3 +5,4 @@ pub mod Elements
 pub mod RowParts
 pub mod Parts
 pub mod Configuration
+pub mod Faults

@@ -3,7 +3,7 @@ ghost use Rattle.std.specs.Prelude.{◌≡◌, ◌≢◌, Ok, Err, IfOk, IfErr};
 ghost use Rattle.serde_json.specs.View.{view};
 ghost use Rattle.config_read.specs.Configuration.{configured, setup_in, HasValidParts};
 
-use crate::fault::{ConfigFault, WHOLE};
+use crate::fault::{ConfigFault, ConfigPart};
 use crate::json_value::read_json;
 use crate::parts::{read_cards, read_keys, read_shards, read_table};
 use issuer_setup::Issuer;
@@ -23,7 +23,7 @@ pub fn read_config(alloc: Global, bytes: &[u8]) -> Result<Issuer, ConfigFault>
     ensures refused { IfErr result (λ fault. fault ≢ ConfigFault.NoMemory → configured bytes.now ≡ Err fault) }
 {
     if bytes.len() > MAX_CONFIG_BYTES {
-        return Err(ConfigFault::of_part(WHOLE));
+        return Err(ConfigFault::of_part(ConfigPart::Whole));
     }
     let value = read_json(alloc, bytes)?;
     read_issuer(alloc, &value)
@@ -36,7 +36,7 @@ fn read_issuer(alloc: Global, value: &Value) -> Result<Issuer, ConfigFault>
     ensures refused { IfErr result (λ fault. fault ≢ ConfigFault.NoMemory → setup_in (view value.now) ≡ Err fault) }
 {
     if !value.is_object() {
-        return Err(ConfigFault::of_part(WHOLE));
+        return Err(ConfigFault::of_part(ConfigPart::Whole));
     }
     let shards = read_shards(value)?;
     let keys = read_keys(value)?;

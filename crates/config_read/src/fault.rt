@@ -1,22 +1,42 @@
-//! The faults of a configuration, and its parts by their numbers.
+//! The faults of a configuration, and its parts.
 ghost use Rattle.std.specs.Prelude.{◌≡◌, ◌+◌, ◌<◌};
+ghost use Rattle.config_read.specs.Faults.{number_of_part};
 
 use issuer_base::{MAX_CARDS, NoMemory};
 
-/// The number by which a fault names the whole configuration.
-pub(crate) const WHOLE: u8 = 1;
+/// A part of a configuration.
+#[derive(Clone, Copy, PartialEq, Eq, Debug)]
+pub enum ConfigPart {
+    /// The whole of it.
+    Whole,
 
-/// That of the member `shards`.
-pub(crate) const SHARDS: u8 = 2;
+    /// The member `shards`.
+    Shards,
 
-/// That of the member `keys`.
-pub(crate) const KEYS: u8 = 3;
+    /// The member `keys`.
+    Keys,
 
-/// That of the member `cards`.
-pub(crate) const CARDS: u8 = 4;
+    /// The member `cards`.
+    Cards,
 
-/// That of the member `table`.
-pub(crate) const TABLE: u8 = 5;
+    /// The member `table`.
+    Table,
+}
+
+impl ConfigPart {
+    /// The number by which the last line of a run names the part.
+    pub fn number(self) -> u8
+        ensures { result ≡ number_of_part self }
+    {
+        match self {
+            ConfigPart::Whole => 1,
+            ConfigPart::Shards => 2,
+            ConfigPart::Keys => 3,
+            ConfigPart::Cards => 4,
+            ConfigPart::Table => 5,
+        }
+    }
+}
 
 /// Why a configuration is refused.
 #[derive(Clone, Copy, PartialEq, Eq, Debug)]
@@ -24,9 +44,8 @@ pub enum ConfigFault {
     /// The bytes aren't one JSON value. Whoever wrote them is to blame.
     NotJson,
 
-    /// The configuration is broken at this place. Part 1 is the whole, 2 `shards`, 3 `keys`, 4 `cards`, 5 `table`;
-    /// the index is 0 for the part itself, and i + 1 for its element i.
-    At { part: u8, index: u32 },
+    /// The configuration is broken in this part: at index 0 the part itself, and at i + 1 its element i.
+    At { part: ConfigPart, index: u32 },
 
     /// Out of memory.
     NoMemory,
@@ -34,14 +53,14 @@ pub enum ConfigFault {
 
 impl ConfigFault {
     /// The fault of a part itself.
-    pub(crate) fn of_part(part: u8) -> ConfigFault
+    pub(crate) fn of_part(part: ConfigPart) -> ConfigFault
         ensures { result ≡ ConfigFault.At part 0 }
     {
         ConfigFault::At { part, index: 0 }
     }
 
     /// The fault of the element of a part at this index, from 0.
-    pub(crate) fn of_element(part: u8, place: u32) -> ConfigFault
+    pub(crate) fn of_element(part: ConfigPart, place: u32) -> ConfigFault
         requires { place < MAX_CARDS }
         ensures { result ≡ ConfigFault.At part (place + 1) }
     {

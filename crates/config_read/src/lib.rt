@@ -10,4 +10,4 @@ mod parts;
 mod words;
 
 pub use config::{MAX_CONFIG_BYTES, read_config};
-pub use fault::ConfigFault;
+pub use fault::{ConfigFault, ConfigPart};

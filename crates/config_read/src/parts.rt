@@ -6,7 +6,7 @@ ghost use Rattle.issuer_setup.specs.Shards.{shards_from};
 ghost use Rattle.config_read.specs.Json.{number_member};
 ghost use Rattle.config_read.specs.Parts.{cards_in, keys_in, part_elements, shards_in, table_in};
 
-use crate::fault::{CARDS, ConfigFault, KEYS, SHARDS, TABLE};
+use crate::fault::{ConfigFault, ConfigPart};
 use crate::front::{front_cards, front_keys, front_rows};
 use crate::json_value::{list_member, number_member};
 use decision_table::Table;
@@ -19,7 +19,7 @@ use std::alloc::Global;
 pub(crate) fn read_shards(value: &Value) -> Result<ShardCount, ConfigFault>
     ensures { result ≡ shards_in (view value.now) }
 {
-    shard_count(value).ok_or(ConfigFault::of_part(SHARDS))
+    shard_count(value).ok_or(ConfigFault::of_part(ConfigPart::Shards))
 }
 
 fn shard_count(value: &Value) -> Option<ShardCount>
@@ -35,12 +35,12 @@ fn shard_count(value: &Value) -> Option<ShardCount>
 pub(crate) fn read_keys(value: &Value) -> Result<KeySets, ConfigFault>
     ensures { result ≡ keys_in (view value.now) }
 {
-    let elements = part_elements(KEYS, "keys", MAX_KEY_SETS, value)?;
+    let elements = part_elements(ConfigPart::Keys, "keys", MAX_KEY_SETS, value)?;
     let keys = match KeySets::new(front_keys(elements)) {
         Ok(keys) => keys,
-        Err(place) => return Err(ConfigFault::of_element(KEYS, place)),
+        Err(place) => return Err(ConfigFault::of_element(ConfigPart::Keys, place)),
     };
-    all_said(KEYS, keys.as_slice().len(), elements)?;
+    all_said(ConfigPart::Keys, keys.as_slice().len(), elements)?;
     Ok(keys)
 }
 
@@ -50,13 +50,16 @@ pub(crate) fn read_cards(alloc: Global, value: &Value) -> Result<Cards, ConfigFa
         (λ cards. cards_in (view value.now) ≡ Ok cards)
         (λ fault. fault ≢ ConfigFault.NoMemory → cards_in (view value.now) ≡ Err fault) }
 {
-    let elements = part_elements(CARDS, "cards", MAX_CARDS, value)?;
+    let elements = part_elements(ConfigPart::Cards, "cards", MAX_CARDS, value)?;
     let cards = match Cards::new(alloc, front_cards(alloc, elements)?) {
         Ok(cards) => cards,
-        Err(CardsFault::Card(place)) => return Err(ConfigFault::of_element(CARDS, place)),
+        Err(CardsFault::Card(place)) => return Err(ConfigFault::of_element(
+            ConfigPart::Cards,
+            place,
+        )),
         Err(CardsFault::NoMemory) => return Err(ConfigFault::NoMemory),
     };
-    all_said(CARDS, cards.as_slice().len(), elements)?;
+    all_said(ConfigPart::Cards, cards.as_slice().len(), elements)?;
     Ok(cards)
 }
 
@@ -64,13 +67,13 @@ pub(crate) fn read_cards(alloc: Global, value: &Value) -> Result<Cards, ConfigFa
 pub(crate) fn read_table(value: &Value) -> Result<Table, ConfigFault>
     ensures { result ≡ table_in (view value.now) }
 {
-    let elements = part_elements(TABLE, "table", MAX_TABLE_ROWS, value)?;
+    let elements = part_elements(ConfigPart::Table, "table", MAX_TABLE_ROWS, value)?;
     let rows = front_rows(elements);
-    all_said(TABLE, rows.len(), elements)?;
+    all_said(ConfigPart::Table, rows.len(), elements)?;
     match Table::new(rows) {
         Some(table) => Ok(table),
         None => Err(ConfigFault::At {
-            part: TABLE,
+            part: ConfigPart::Table,
             index: elements.len() as u32,
         }),
     }
@@ -78,7 +81,7 @@ pub(crate) fn read_table(value: &Value) -> Result<Table, ConfigFault>
 
 /// The elements of a part, if it is a list of 1 to `most`.
 fn part_elements<'a>(
-    part: u8,
+    part: ConfigPart,
     name: &str,
     most: usize,
     value: &'a Value,
@@ -96,7 +99,7 @@ fn part_elements<'a>(
 }
 
 /// The fault of the first malformed element, if only the first `said` elements were parsed.
-fn all_said(part: u8, said: usize, elements: &[Value]) -> Result<(), ConfigFault>
+fn all_said(part: ConfigPart, said: usize, elements: &[Value]) -> Result<(), ConfigFault>
     requires { length elements.now ≤ MAX_CARDS }
     ensures { MatchResult result
         (λ _. length elements.now ≤ said)

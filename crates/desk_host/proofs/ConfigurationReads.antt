@@ -5,6 +5,7 @@ use Rattle.std.proofs.lemmas.List.{length-append}
 use Rattle.issuer_setup.specs.IssuerSetup.{Setup}
 use Rattle.config_read.specs.declared.fault.ConfigFault.{ConfigFault}
 use Rattle.config_read.specs.declared.fault.ConfigFault.TheVariants.{NotJson, At, NoMemory}
+use Rattle.config_read.specs.declared.fault.ConfigPart.TheVariants.{Whole}
 use Rattle.config_read.specs.Configuration.{configured}
 use Rattle.config_read.specs.declared.config.TheConstants.{MAX_CONFIG_BYTES}
 use Rattle.desk_host.specs.Configuration.{IsRead, Says, IsBroken, GivesNoIssuer, config_stop}
@@ -12,7 +13,7 @@ use Rattle.issuer_base.proofs.ManyCalls.{Tells-whole}
 use Rattle.line_blocks.proofs.InputFronts.{front-read}
 
 -- a text past the limit is broken as a whole
-configured-long : (text : List ℕ) → MAX_CONFIG_BYTES < length text → configured text ≡ Err (At 1 0)
+configured-long : (text : List ℕ) → MAX_CONFIG_BYTES < length text → configured text ≡ Err (At Whole 0)
 unfolding configured
 configured-long text long = grind arith
 
@@ -20,7 +21,7 @@ configured-long text long = grind arith
 within_limit : (text : List ℕ) (issuer : Setup) → configured text ≡ Ok issuer → length text ≤ MAX_CONFIG_BYTES
 within_limit text issuer says =
     ⊎_elim
-    (λ long. absurd (let both : Err (At 1 0) ≡ Ok issuer = sym (configured-long text long) ∙ says in cc))
+    (λ long. absurd (let both : Err (At Whole 0) ≡ Ok issuer = sym (configured-long text long) ∙ says in cc))
     (λ within. within)
     (cases_lt MAX_CONFIG_BYTES (length text))
 

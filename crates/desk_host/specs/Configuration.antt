@@ -10,7 +10,9 @@ use Rattle.issuer_setup.specs.KeyList.{AreKeys}
 use Rattle.world_net.specs.WorldRuns.{IsIssuer}
 use Rattle.config_read.specs.declared.fault.ConfigFault.{ConfigFault}
 use Rattle.config_read.specs.declared.fault.ConfigFault.TheVariants.{NotJson, At, NoMemory as NoRoom}
+use Rattle.config_read.specs.declared.fault.ConfigPart.TheVariants.{Whole}
 use Rattle.config_read.specs.Configuration.{configured}
+use Rattle.config_read.specs.Faults.{number_of_part}
 use Rattle.issuer_base.specs.Tells.{Tells}
 use Rattle.config_read.specs.declared.config.TheConstants.{MAX_CONFIG_BYTES}
 use Rattle.desk_host.specs.declared.config.TextFault.{TextFault}
@@ -28,10 +30,10 @@ is_read_fault (Ok text) = false
 is_read_fault (Err Read) = true
 is_read_fault (Err NoMemory) = false
 
--- how a run stops where a configuration says no issuer: bytes that aren't JSON are told as part 1, index 0
+-- how a run stops where a configuration says no issuer: of bytes that aren't JSON the whole is broken
 abbrev pub config_stop : ConfigFault → Stop
-config_stop NotJson = Config 1 0
-config_stop (At part index) = Config part index
+config_stop NotJson = Config (number_of_part Whole) 0
+config_stop (At part index) = Config (number_of_part part) index
 config_stop NoRoom = Memory
 
 -- an issuer's parts are sound, as their types say: its shards, cards and key sets

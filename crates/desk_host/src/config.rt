@@ -5,7 +5,7 @@ ghost use Rattle.desk_host.specs.Configuration.{HasSoundParts, IsRead, is_read_f
 ghost use Rattle.desk_host.specs.Configuration.{is_read_cause, is_read_stop, config_stop};
 
 use answer_text::Stop;
-use config_read::{ConfigFault, MAX_CONFIG_BYTES, read_config};
+use config_read::{ConfigFault, ConfigPart, MAX_CONFIG_BYTES, read_config};
 use issuer_base::{ReadFault, Source};
 use issuer_setup::Issuer;
 use std::alloc::Global;
@@ -66,8 +66,14 @@ fn config_stop(fault: ConfigFault) -> Stop
     ensures cause { is_read_cause result ≡ false }
 {
     match fault {
-        ConfigFault::NotJson => Stop::Config { part: 1, index: 0 },
-        ConfigFault::At { part, index } => Stop::Config { part, index },
+        ConfigFault::NotJson => Stop::Config {
+            part: ConfigPart::Whole.number(),
+            index: 0,
+        },
+        ConfigFault::At { part, index } => Stop::Config {
+            part: part.number(),
+            index,
+        },
         ConfigFault::NoMemory => Stop::NoMemory,
     }
 }

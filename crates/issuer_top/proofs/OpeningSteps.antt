@@ -16,6 +16,7 @@ use Rattle.answer_text.specs.declared.stop_line.Stop.TheVariants.{BadFeed, NoKey
 use Rattle.issuer_setup.specs.IssuerSetup.{Setup}
 use Rattle.config_read.specs.declared.fault.ConfigFault.{ConfigFault}
 use Rattle.config_read.specs.declared.fault.ConfigFault.TheVariants.{NotJson, At, NoMemory as NoTextRoom}
+use Rattle.config_read.specs.Faults.{number_of_part}
 use Rattle.command_line.specs.Command.{RequestFile, IsCommand}
 use Rattle.desk_host.specs.Configuration.{Says, GivesNoIssuer, is_read_stop, config_stop}
 use Rattle.desk_host.specs.SeenStores.{no_journals}
@@ -122,7 +123,7 @@ module _ (seen : Seen) (config : List ℕ) (ending : Ending) (command : ReadsCon
   broken : (fault : ConfigFault) → OpenedConfigOnly seen → IsConfigured (seen.desk.tells config) (Err fault)
       → Stops (config_stop fault) seen (stop_text (config_stop fault))
   broken NotJson opened said = is-broken NotJson (Config 1 0) refl opened said
-  broken (At part index) opened said = is-broken (At part index) (Config part index) refl opened said
+  broken (At part index) opened said = is-broken (At part index) (Config (number_of_part part) index) refl opened said
   broken NoTextRoom opened said = lacks (inr opened)
 
   -- the run stops by a cause that is this one
