@@ -75,17 +75,23 @@ def test() -> int:
     for number in SIGNALS:
         signal.signal(number, end)
     began, total = time.monotonic(), Sum()
-    test_pages(total)
     with tempfile.TemporaryDirectory(prefix="issuer-test-") as room:
-        for done in side_by_side([*tasks_of_crates(rt), task_of_examples(rt, room)], lanes_for(BUILD_BYTES)):
-            if done.task.name == EXAMPLES_TASK:
-                total.add(
-                    EXAMPLES_TASK, counts_of_examples(done), done.seconds, "./issuer serve .., as examples/ has it"
-                )
-            else:
-                total.add(done.task.name, counts_of_crate(done), done.seconds, alone(done.task))
+        tasks = [*tasks_of_scripts(), *tasks_of_crates(rt), task_of_examples(rt, room)]
+        for done in side_by_side(tasks, lanes_for(BUILD_BYTES)):
+            add_done(total, done)
     tell(f"all of that took {minutes(time.monotonic() - began)}")
     return total.end()
+
+
+def add_done(total: Sum, done: Done) -> None:
+    """Adds what a task came to, by what it is."""
+    name = done.task.name
+    if name == EXAMPLES_TASK:
+        total.add(name, counts_of_examples(done), done.seconds, "./issuer serve .., as examples/ has it")
+    elif name in WITHOUT_PROGRAM:
+        total.add(name, counts_of_script(done.text, done.status), done.seconds, name)
+    else:
+        total.add(name, counts_of_crate(done), done.seconds, alone(done.task))
 
 
 def end(number: int, frame: Optional[FrameType]) -> NoReturn:
@@ -96,17 +102,12 @@ def end(number: int, frame: Optional[FrameType]) -> NoReturn:
 # Pages, and what else needs no program
 
 
-def test_pages(total: Sum) -> None:
+def tasks_of_scripts() -> Iterator[Task]:
+    """Returns the scripts that need no program: they come first, since in seconds they tell of a page that is wrong."""
     for script in WITHOUT_PROGRAM:
         words = script.split()
-        if not os.path.isfile(os.path.join(HOME, words[0])):
-            continue
-        began = time.monotonic()
-        ran = subprocess.run(
-            words, cwd=HOME, stdin=subprocess.DEVNULL, stdout=subprocess.PIPE, stderr=subprocess.STDOUT, check=False
-        )
-        text = ran.stdout.decode(errors="replace")
-        total.add(script, counts_of_script(text, ran.returncode), time.monotonic() - began, script)
+        if os.path.isfile(os.path.join(HOME, words[0])):
+            yield Task(script, words, HOME)
 
 
 def counts_of_script(text: str, status: int) -> Counts:
