@@ -67,10 +67,6 @@ class Tally:
         self.fail(what)
         return False
 
-    def check(self, fact: object, what: str) -> bool:
-        """Counts whether a fact holds, as `holds` does."""
-        return self.holds(fact, what)
-
     def fail(self, what: str, *more: str) -> None:
         self.failed += 1
         self.failures[self.name] = self.failures.get(self.name, 0) + 1
