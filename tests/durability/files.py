@@ -123,34 +123,34 @@ def old_journals_need_not_be_writable(tally: Tally) -> None:
     """Old journals may be files that can't be written, for a user who isn't root; a journal may not."""
     old = scenes.old_journals_of(2, (30, 4))
     with as_nobody(tally.watch, old) as (watch, folder, become):
-        if watch is None:
-            tally.note("left out: nobody can't run the program here")
-            return
         for name in old:
             os.chmod(os.path.join(folder, name), 0o400)
         run = watch.run_alone(folder, scenes.show(), before=become)
         tally.expect(run.status, 0, "show over old journals of mode 0400: its status")
         copied = read_journals(folder)[journal_path("journal", 0)]
         tally.expect(copied, scenes.text_of(scenes.status_records(2, 0, 30)), "the copy of an old journal of mode 0400")
+        if os.geteuid() == 0 and become is None:
+            tally.note("left out: a user whom the modes bind, since nobody can't run the program here")
+            return
         os.chmod(os.path.join(folder, journal_path("journal", 1)), 0o400)
         run = watch.run_alone(folder, scenes.show(), before=become)
         tally.expect((run.status, run.answers), (5, ["stop 5 1"]), "show over a journal of mode 0400")
 
 
 @contextmanager
-def as_nobody(watch: Watch, journals: Image) -> Iterator[tuple[Optional[Watch], str, Optional[Callable[[], None]]]]:
+def as_nobody(watch: Watch, journals: Image) -> Iterator[tuple[Watch, str, Optional[Callable[[], None]]]]:
     """A folder with journals, and the program, for a user who isn't root: this one, or nobody, if it can run there."""
     with new_folder() as folder, ExitStack() as places:
         scenes.served("", 1, journals, ()).prepare(folder)
-        if os.geteuid() != 0:
+        program = program_of_nobody(watch.program, places) if os.geteuid() == 0 else ""
+        if not program:
             yield watch, folder, None
             return
-        program = program_of_nobody(watch.program, places)
         own = copy.copy(watch)
         own.program = program
         for name in ("", *os.listdir(folder)):
             os.chown(os.path.join(folder, name), NOBODY, NOBODY)
-        yield own if program else None, folder, become_nobody
+        yield own, folder, become_nobody
 
 
 def program_of_nobody(program: str, places: ExitStack) -> str:
@@ -158,7 +158,8 @@ def program_of_nobody(program: str, places: ExitStack) -> str:
     for room in (tempfile.gettempdir(), "/tmp", "/var/tmp"):
         place = places.enter_context(tempfile.TemporaryDirectory(dir=room))
         os.chmod(place, 0o755)
-        copied = shutil.copy(program, place)
+        copied = os.path.join(place, os.path.basename(program))
+        shutil.copy(program, copied)
         try:
             subprocess.run([copied], preexec_fn=become_nobody, cwd="/", capture_output=True, check=False)
             return copied

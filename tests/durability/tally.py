@@ -1,49 +1,36 @@
-"""What all checks share: the program, the library, a folder to run in, and the counts of what passed and failed."""
+"""What all checks share: the program, the library that watches it, a folder to run in, and the counts."""
 import os
 import shutil
 import tempfile
+import time
 from collections.abc import Callable, Iterator
 from contextlib import contextmanager
+from functools import partial
 from typing import NamedTuple
+
+import checks
 
 from durability.watching import Watch
 
 MEMORY = "/dev/shm" if os.access("/dev/shm", os.W_OK) else None
-# A check prints so many failures at most.
-MAX_PRINTED = 5
 
 
 class Tally:
-    """The counts of one check. It prints each failure: what was run, what was expected, and what came."""
+    """The counts of one check, with what it runs."""
 
-    def __init__(self, watch: Watch, is_short: bool) -> None:
+    def __init__(self, counts: checks.Tally, watch: Watch, is_short: bool) -> None:
+        self.counts = counts
         self.watch = watch
         self.is_short = is_short
-        self.passed = self.failed = 0
         self.notes: list[str] = []
 
     def expect(self, came: object, expected: object, what: str) -> bool:
         """Counts whether what came is what was expected."""
-        if came == expected:
-            self.passed += 1
-            return True
-        self.fail(f"{what}: expected {brief(expected)}, and {brief(came)} came")
-        return False
+        return self.counts.expect(came, expected, what)
 
     def holds(self, fact: bool, what: str) -> bool:
         """Counts whether a fact holds; the words say what does not."""
-        if fact:
-            self.passed += 1
-            return True
-        self.fail(what)
-        return False
-
-    def fail(self, what: str) -> None:
-        self.failed += 1
-        if self.failed <= MAX_PRINTED:
-            print(f"  wrong: {what}", flush=True)
-        elif self.failed == MAX_PRINTED + 1:
-            print("  .. and others", flush=True)
+        return self.counts.holds(fact, what)
 
     def note(self, text: str) -> None:
         """Adds a figure to the line that sums the check up."""
@@ -57,15 +44,26 @@ class Check(NamedTuple):
     does: str
     body: Callable[[Tally], None]
 
+    def over(self, watch: Watch, is_short: bool) -> checks.Check:
+        """The check of a program that is watched."""
+        return checks.Check(self.name, self.does, partial(run, self, watch, is_short))
+
 
 def check_of(body: Callable[[Tally], None]) -> Check:
     """Returns the check that a function is. The first line of its docstring says what it does."""
     return Check(body.__name__, (body.__doc__ or "").strip().splitlines()[0], body)
 
 
-def brief(value: object) -> str:
-    text = repr(value)
-    return text if len(text) <= 400 else f"{text[:250]} .. {text[-140:]}"
+def run(check: Check, watch: Watch, is_short: bool, counts: checks.Tally) -> None:
+    """Runs one check, and prints what it came to."""
+    tally = Tally(counts, watch, is_short)
+    passed, failed, begun = counts.passed, counts.failed, time.monotonic()
+    try:
+        check.body(tally)
+    finally:
+        came = f"{counts.passed - passed} passed, {counts.failed - failed} failed"
+        notes = "".join(f", {note}" for note in tally.notes)
+        print(f"{check.name}: {came}{notes}, in {time.monotonic() - begun:.1f} s", flush=True)
 
 
 @contextmanager

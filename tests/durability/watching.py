@@ -1,5 +1,6 @@
 """Runs the program under the library that watches its calls, and reads what the library logged."""
 import errno
+import functools
 import os
 import subprocess
 import threading
@@ -110,8 +111,12 @@ class Watch:
 
     def __init__(self, program: str, folder: str) -> None:
         self.program = program
-        self.library = build_library(folder)
+        self.folder = folder
         self.log = os.path.join(folder, "log")
+
+    @functools.cached_property
+    def library(self) -> str:
+        return build_library(self.folder)
 
     def run(
         self,
