@@ -52,11 +52,17 @@ class LiveAsker(Asker):
         self.asked.pop(self.connection.published.pop(question.number, ""), None)
 
     def take(self, _: Channel, __: Delivery, properties: Properties, body: bytes) -> None:
-        found = self.asked.pop(properties.correlation_id, None)
-        if found is not None:
-            self.connection.published.pop(found.number, None)
-            self.connection.came.append((found.number, body.decode("ascii", errors="replace")))
-            self.connection.wake()
+        found = self.asked.get(properties.correlation_id)
+        if found is None:
+            return
+        text = self.macs.opened(found.correlation, found.line, body)
+        if text is None:
+            self.limited.tell("an answer came that no bridge wrote: it is dropped")
+            return
+        del self.asked[found.correlation]
+        self.connection.published.pop(found.number, None)
+        self.connection.came.append((found.number, text))
+        self.connection.wake()
 
     def fail(self, fault: Exception) -> None:
         self.limited.tell(str(fault))

@@ -30,6 +30,7 @@ from issuer_host.gateway.gateway import Gateway, Partition
 from issuer_host.gateway.log import tell
 from issuer_host.gateway.options import BadOptions
 from issuer_host.gateway.pipes import PipeHost, command_of
+from issuer_host.service.refusal import Refusal
 from issuer_host.statuses import Status
 
 
@@ -42,6 +43,9 @@ def main(words: Sequence[str]) -> int:
     except BadOptions as wrong:
         tell(str(wrong))
         return Status.USAGE
+    except Refusal as refusal:
+        tell(str(refusal))
+        return Status.REFUSED
     except OSError as fault:
         tell(f"{fault.filename or 'the address'}: {fault.strerror or fault}")
         return Status.PASSES

@@ -31,6 +31,7 @@ from issuer_host.service import broker
 from issuer_host.service.declines import body_of
 from issuer_host.service.link import Confirm, Link
 from issuer_host.service.loops import Channel, Delivery, Properties, Step, new_loop
+from issuer_host.service.reply_mac import ReplyMacs
 
 AGAIN_SECONDS = 15.0
 FULL_SECONDS = 0.5
@@ -95,6 +96,9 @@ class Asker:
         self.on_answer = on_answer
         self.loop = new_loop()
         self.queue = f"{broker.REPLY_PREFIX}{uuid.uuid4().hex}"
+        self.macs = ReplyMacs(broker_file)
+        # How many answers no bridge wrote.
+        self.forged = 0
         parameters = broker.parameters_of(broker_file)
         self.link = Link(self.loop, parameters, self.steps_of, self.ready, lambda reason: None)
         self.unasked: Iterator[tuple[int, str]] = iter(())
@@ -200,7 +204,10 @@ class Asker:
         if question is None:
             self.repeats += properties.correlation_id in self.known.ids
             return
-        text = body.decode("ascii")
+        text = self.macs.opened(question.correlation, question.line, body)
+        if text is None:
+            self.forged += 1
+            return
         if is_held(text):
             question.held = text
             self.loop.call_later(HELD_SECONDS, functools.partial(self.publish_again, question))

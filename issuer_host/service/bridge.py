@@ -40,7 +40,8 @@ from issuer_host.service.link import Confirm, Link
 from issuer_host.service.loops import Callback, Channel, Delivery, Properties, Step, new_loop
 from issuer_host.service.notices import notify
 from issuer_host.service.readiness import Readiness
-from issuer_host.service.refusal import tell
+from issuer_host.service.refusal import Refusal, tell
+from issuer_host.service.reply_mac import ReplyMacs
 from issuer_host.service.serving import Outside, Serving
 from issuer_host.statuses import Status
 
@@ -108,6 +109,7 @@ class Bridge:
         self.link = Link(self.loop, parameters, self.steps_of, self.ready, self.lost)
         self.flight = Flight()
         self.deaf = DeafQueues()
+        self.macs = ReplyMacs(options.broker_file)
         outside = Outside(self.send, self.is_current, self.host_is_ready, self.end_if_idle, self.give_up)
         command = command_of(options)
         self.serving = Serving(self.loop, command, options.journal, self.figures, options.orders or "", outside)
@@ -196,7 +198,8 @@ class Bridge:
             self.figures.answered(text, time.monotonic() - entry.began)
             self.settle(entry, True)
 
-        self.link.publish(broker.REPLIES, entry.reply_to, text.encode("ascii"), entry.correlation, confirmed)
+        body = self.macs.sealed(entry.correlation, entry.line, text)
+        self.link.publish(broker.REPLIES, entry.reply_to, body, entry.correlation, confirmed)
 
     def drop(self, entry: Entry) -> None:
         """Drops an answer that its reply queue refuses."""
@@ -242,4 +245,8 @@ class Bridge:
 
 
 def main(words: Sequence[str]) -> int:
-    return Bridge(options_of(words)).run()
+    try:
+        return Bridge(options_of(words)).run()
+    except Refusal as refusal:
+        tell(NAME, str(refusal))
+        return Status.REFUSED

@@ -7,6 +7,7 @@ from typing import Any, Optional
 
 import pika
 
+from issuer_host.service import broker_file
 from issuer_host.service.loops import Channel, Step
 
 REQUESTS, REPLIES, DEAD = "issuer.requests", "issuer.replies", "issuer.dead"
@@ -20,7 +21,8 @@ DELIVERY_LIMIT = 8
 # A reply queue that nobody reads for an hour is removed.
 REPLY_EXPIRES = 3_600_000
 HEARTBEAT = 10
-LOCAL = "amqp://127.0.0.1:5672/%2F"
+# Bytes that the broker should take in a message (max_message_size of its configuration).
+MAX_MESSAGE = 65_536
 
 PARTITION_ARGUMENTS = {
     "x-queue-type": "quorum",
@@ -49,12 +51,11 @@ def queue_of(partition: int) -> str:
 
 
 def parameters_of(path: Optional[str]) -> Any:
-    """Returns the connection that a file of one line names, or the broker of this machine if there is no file."""
-    url = LOCAL
-    if path:
-        with open(path, encoding="utf-8") as text:
-            url = text.read().strip()
-    found = pika.URLParameters(url)
+    """Returns the connection that a broker file names, or the broker of this machine if there is no file."""
+    file = broker_file.read(path)
+    found = pika.URLParameters(file.url)
+    if file.tls:
+        found.ssl_options = pika.SSLOptions(file.tls, file.host)
     found.heartbeat = HEARTBEAT
     found.blocked_connection_timeout = 2 * HEARTBEAT
     found.socket_timeout = 2
