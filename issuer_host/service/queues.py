@@ -1,20 +1,33 @@
-"""Declares the exchanges and the quorum queues of all partitions at the broker.
+"""Declares the exchanges and the quorum queues of all partitions at the broker, or says what the broker lacks.
 
 usage: queues --partitions P [--broker-file FILE]
+       queues --check --partitions P [--broker-file FILE] [--operator USER] [--bridge USER] [--vhost NAME]
+              [--control COMMAND]
 
 Run it once, before the first bridge, and again for more partitions; never two at a time. What exists as it should be
 stays. A queue that exists with other arguments is refused with status 1: delete it while it is empty, and declare it
 again.
+
+--check     changes nothing, and asks the broker of this machine by rabbitmqctl, as root. It prints a line for each
+            thing that is missing, with the command that mends it: users and what they may do, their limits, policies,
+            queues and bindings, sizes, listeners and TLS. The status is 1 if something is
+--operator  the user of whoever runs this command (issuer-operator)
+--bridge    the user of the bridges (issuer-bridge); all others are publishers
+--vhost     the virtual host (/)
+--control   another command than rabbitmqctl
 """
 import argparse
+import os
 from collections.abc import Callable, Sequence
 from typing import Any, NamedTuple, Optional, cast
 
 import pika
 
 from issuer_host.service import broker
+from issuer_host.service.broker_facts import COMMAND, Control, facts_of
+from issuer_host.service.broker_rules import Expected, of_broker_file, what_is_missing
 from issuer_host.service.loops import Channel
-from issuer_host.service.refusal import tell
+from issuer_host.service.refusal import Refusal, tell
 
 SAVED_SECONDS = 2
 
@@ -24,6 +37,11 @@ class Options(NamedTuple):
 
     partitions: int
     broker_file: Optional[str]
+    check: bool
+    operator: str
+    bridge: str
+    vhost: str
+    control: str
 
 
 class Once:
@@ -47,6 +65,11 @@ def options_of(words: Sequence[str]) -> Options:
     parser = argparse.ArgumentParser(usage=__doc__)
     parser.add_argument("--partitions", type=int, required=True)
     parser.add_argument("--broker-file")
+    parser.add_argument("--check", action="store_true")
+    parser.add_argument("--operator", default="issuer-operator")
+    parser.add_argument("--bridge", default="issuer-bridge")
+    parser.add_argument("--vhost", default="/")
+    parser.add_argument("--control", default=COMMAND)
     return Options(**vars(parser.parse_args(words)))
 
 
@@ -64,12 +87,39 @@ def declare(options: Options) -> None:
     connection.close()
 
 
+def check(options: Options) -> list[str]:
+    """Returns what the broker lacks."""
+    expected = Expected(options.partitions, options.operator, options.bridge, options.vhost)
+    found = what_is_missing(facts_of(Control(options.control, options.vhost)), expected)
+    if options.broker_file:
+        with open(options.broker_file, encoding="utf-8") as file:
+            found += of_broker_file(file.read(), os.fstat(file.fileno()).st_mode)
+    return found
+
+
+def run_check(options: Options) -> int:
+    found = check(options)
+    for line in found:
+        print(f"missing: {line}")
+    if not found:
+        print("nothing is missing")
+    return 1 if found else 0
+
+
+def run(options: Options) -> int:
+    if options.check:
+        return run_check(options)
+    declare(options)
+    print(f"{options.partitions} partitions' queues are declared")
+    return 0
+
+
 def main(words: Sequence[str]) -> int:
     options = options_of(words)
     try:
-        declare(options)
+        return run(options)
+    except Refusal as refusal:
+        tell("queues", str(refusal))
     except (OSError, pika.exceptions.AMQPError) as fault:
         tell("queues", repr(fault))
-        return 1
-    print(f"{options.partitions} partitions' queues are declared")
-    return 0
+    return 1
