@@ -6,6 +6,7 @@ file gets the ending `.1`, that one `.2`, and so on; the oldest is removed. What
 of the log ends anything.
 """
 import datetime
+import errno
 import fcntl
 import json
 import os
@@ -36,6 +37,8 @@ class Audit:
         self.file = -1
         self.lines = 0
         self.is_failing = False
+        # Whether the file may end within a line.
+        self.is_torn = False
 
     def answered(self, by: str, line: str, answer: str, uid: Optional[int] = None, number: str = "") -> None:
         """A host answered a line."""
@@ -69,7 +72,11 @@ class Audit:
         if self.file < 0 or self.lines % LOOK_LINES == 0:
             self.look()
         self.lines += 1
-        os.write(self.file, text)
+        text = b"\n" * self.is_torn + text
+        self.is_torn = True
+        if os.write(self.file, text) < len(text):
+            raise OSError(errno.ENOSPC, os.strerror(errno.ENOSPC))
+        self.is_torn = False
 
     def look(self) -> None:
         """Opens the file of the name, and begins a new one if it is full."""

@@ -2,15 +2,25 @@
 import json
 import os
 import sys
+from collections.abc import Mapping, Sequence
 from typing import Any
 
 from issuer_host.paths import HOME
+
+# The status that declines for an account, and the response code of its row.
+ACCOUNT, ACCOUNT_CODE = 1, "3531"
 
 
 def whole_configuration(cards: int, shards: int) -> dict[str, Any]:
     """Returns a configuration of so many cards."""
     found: dict[str, Any] = json.loads(request_lines().configuration(cards, shards))
     return found
+
+
+def with_account_row(table: Sequence[Mapping[str, Any]]) -> list[Mapping[str, Any]]:
+    """Returns a table with a row that declines for the account."""
+    row = {**table[-1], "least": 0, "status": ACCOUNT, "arc": ACCOUNT_CODE, "approve": False, "csu": "00000000"}
+    return [row, *table]
 
 
 def distinct_lines(cards: int, count: int) -> list[str]:

@@ -3,8 +3,9 @@
 usage: deploy/chaos [--short] [--requests N] [--seed S] [--program PATH] [--keep FOLDER] [--loud]
 
 It starts a private broker on the loopback, four partitions and two bridges for each, and asks N requests (20,000; in
-the short form 2,000), about a tenth of them again. The bridges are those of an installed copy, and are managed as the
-unit says. The second one of each partition finds the broker by a name with two addresses. In each round something
+the short form 2,000), about a tenth of them again. About a tenth are declined by their accounts, and orders are given
+meanwhile at the bridges' sockets, each until it is done. The bridges are those of an installed copy, and are managed as
+the unit says. The second one of each partition finds the broker by a name with two addresses. In each round something
 happens at a random moment:
 
 - a bridge, a standby, a host, a host with its bridge or the broker is killed; a bridge is ended by SIGTERM
@@ -18,6 +19,8 @@ At the end:
 
 - each request was answered, and all its answers are the same reply
 - each request has exactly one record, at the index that its answers name, and no record is of another request
+- each order has one record, which its answer names; each decline by an account is among its card's neighbours, and the
+  card has the status of before
 - each partition's journals load
 - no bridge ended with a status after which the unit doesn't start it again
 
@@ -40,11 +43,13 @@ from collections.abc import Sequence
 from typing import NamedTuple, Optional
 
 from issuer_host.paths import PROGRAM
+from issuer_host.request_lines import pan_of_line
 from issuer_host.service.trials import private_broker
 from issuer_host.service.trials.cards import distinct_lines
 from issuer_host.service.trials.comparing import check_all
 from issuer_host.service.trials.farm import CARDS, DISK_BYTES, PARTITIONS, Farm, make_configurations
 from issuer_host.service.trials.tally import Tally
+from issuer_host.service.trials.work import Orders, by_request, check_work, some_declined
 
 REPEATED = 0.1
 # (a broker that is killed takes up to half a minute to begin on a busy machine)
@@ -197,19 +202,25 @@ def play(options: Options, room: str, tally: Tally) -> None:
         farm = Farm(room, options.program, disk, options.loud)
         make_configurations(room, options.program)
         lines = distinct_lines(CARDS, options.requests)
-        order = order_of(lines, dice)
+        messages = some_declined(lines, dice)
+        order = order_of(messages, dice)
+        orders = Orders(farm, sorted({pan_of_line(line) for line in lines}), options.seed)
         farm.begin()
         began = time.monotonic()
+        orders.begin()
         asked = ask_in_rounds(farm, order, events_of(options, dice, disk is not None), dice)
+        orders.end()
         seconds = time.monotonic() - began
         farm.end()
-        check_all(tally, farm, lines, asked.answers)
+        check_all(tally, farm, lines, by_request(asked.answers))
+        check_work(tally, farm, messages, orders)
         for bridge in farm.bridges:
             tally.check(
                 not bridge.is_down, f"a bridge of partition {bridge.partition} stayed down: {dict(bridge.ends)}"
             )
         tally.check(not farm.faults, f"these didn't happen: {farm.faults}")
         report(farm, len(lines), len(order), asked, seconds)
+        print(f"{len(messages) - len(set(messages) & set(lines))} declined by accounts, {len(orders.done)} orders")
     finally:
         clear(options, room, farm, disk)
 

@@ -11,7 +11,7 @@ from typing import Optional, Union
 from issuer_host.partitions import partition_configuration, partition_journal
 from issuer_host.paths import HOME, PROGRAM
 from issuer_host.service import offline
-from issuer_host.service.trials.cards import whole_configuration
+from issuer_host.service.trials.cards import whole_configuration, with_account_row
 from issuer_host.service.trials.installed import Installed
 from issuer_host.service.trials.managed import GO_ON, TERMINATE, ManagedBridge
 from issuer_host.service.trials.private_broker import PrivateBroker
@@ -78,15 +78,20 @@ class Farm:
         os.makedirs(os.path.dirname(journal), exist_ok=True)
         offline.show(config, journal, self.program, begins=True)
         command = [self.installed.command("bridge"), "--partition", str(partition), "--config", config]
-        command += ["--journal", journal, "--callers", str(CALLERS), "--broker-file"]
+        command += ["--journal", journal, "--callers", str(CALLERS)]
         by_name = command_before(self.room)
-        for number in range(BRIDGES):
+        for number, path in enumerate(self.sockets(partition)):
+            begun = [*command, "--orders", path, "--broker-file"]
             if number and by_name:
-                words = [*by_name, *command, url_file_of(self.room, self.broker.port)]
+                words = [*by_name, *begun, url_file_of(self.room, self.broker.port)]
                 self.bridges.append(ManagedBridge(self.room, partition, number, words, without_inet6))
             else:
-                words = [*command, self.broker.url_file]
+                words = [*begun, self.broker.url_file]
                 self.bridges.append(ManagedBridge(self.room, partition, number, words))
+
+    def sockets(self, partition: int) -> list[str]:
+        """Returns the sockets at which the bridges of a partition take orders."""
+        return [os.path.join(self.room, f"orders-{partition}-{number}") for number in range(BRIDGES)]
 
     def journal(self, partition: int) -> str:
         return partition_journal(self.room, partition)
@@ -145,6 +150,7 @@ def fill(path: str, piece: bytes) -> None:
 def make_configurations(room: str, program: Optional[str]) -> None:
     """Cuts the cards by deploy/partition, as an operator does."""
     template = whole_configuration(CARDS, SHARDS)
+    template["table"] = with_account_row(template["table"])
     cards = template.pop("cards")
     with open(os.path.join(room, "template"), "w", encoding="utf-8") as text:
         json.dump(template, text)
