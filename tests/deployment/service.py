@@ -13,7 +13,7 @@ from issuer_host.limits import WINDOW
 from issuer_host.paths import HOME
 from issuer_host.request_lines import pan_of_line
 from issuer_host.service.hosting import LOAD_SECONDS
-from issuer_host.service.packaging.make_deb import standby_of
+from issuer_host.service.packaging.make_deb import ENCRYPTED, standby_of
 from issuer_host.statuses import NOT_RESTARTED
 from runs import content_of, write_text
 
@@ -57,6 +57,23 @@ def standby_has_other_ports(tally: Tally) -> None:
     host, standby = unit_of(UNITS[0]), unit_of(UNITS[1])
     tally.expect(standby.count("--figures 20000"), 1, "the ports of the standby's figures in its unit")
     tally.holds(host != standby, "the standby's unit is the host's")
+
+
+def a_configuration_may_be_encrypted(tally: Tally) -> None:
+    """The service manager knows all of the drop-in by which a unit's configuration is an encrypted credential."""
+    if not shutil.which("systemd-analyze"):
+        print("left out: the drop-in of a configuration that is encrypted, for want of systemd-analyze")
+        return
+    text = content_of(os.path.join(DEPLOY, "units", ENCRYPTED))
+    for name in UNITS[:2]:
+        with tempfile.TemporaryDirectory() as folder:
+            write_text(folder, name, re.sub("(?m)^ExecStart=.*", "ExecStart=/bin/true", unit_of(name)))
+            os.mkdir(os.path.join(folder, f"{name}.d"))
+            for more, said in (("", ""), ("Nonsense=1\n", "Unknown key")):
+                write_text(folder, f"{name}.d/keys.conf", text + more)
+                unit = os.path.join(folder, name.replace("@", "@0"))
+                ran = run_tool(tally, "systemd-analyze", "verify", "--man=no", unit)
+                tally.holds(ran.returncode == 0 and (said in ran.stderr if said else not ran.stderr), ran.stderr)
 
 
 def units_restart(tally: Tally) -> None:
@@ -153,6 +170,7 @@ CHECKS = [
         Check(f"unit_{name.partition('.')[0].strip('@')}", f"{name} by systemd", partial(unit_is_right, name), True)
         for name in UNITS
     ),
+    check_of(a_configuration_may_be_encrypted)._replace(may_be_empty=True),
     check_of(alert_rules_are_right)._replace(may_be_empty=True),
     check_of(each_alert_is_raised),
     check_of(alerts_have_the_programs_numbers),

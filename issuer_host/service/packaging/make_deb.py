@@ -45,6 +45,8 @@ COMMANDS = {
     "look": "issuer-look",
 }
 UNIT, STANDBY, GATEWAY = "issuer@.service", "issuer-standby@.service", "issuer-gateway.service"
+# A drop-in of the first two.
+ENCRYPTED = "encrypted-configuration.conf"
 MANUALS = ("issuer.1", "issuer-journal.5", "issuer-deploy.8", "issuer-gateway.8")
 # All pages: each points to others.
 PAGES = (*sorted(name for name in os.listdir(os.path.join(HOME, "docs")) if name.endswith(".md")), "CHANGELOG.md")
@@ -155,6 +157,7 @@ def add_pages(tree: Tree, maintainer: str) -> None:
     tree.copy(os.path.join(DEPLOY, "README.md"), f"{at}/README.md")
     for name in ("alerts.yml", "dashboard.json"):
         tree.copy(os.path.join(DEPLOY, name), f"{at}/examples/{name}")
+    tree.copy(os.path.join(DEPLOY, "units", ENCRYPTED), f"{at}/examples/{ENCRYPTED}")
     for name in ("config", "requests"):
         tree.copy(os.path.join(HOME, "examples", name), f"{at}/examples/{name}")
 
