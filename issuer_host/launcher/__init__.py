@@ -10,6 +10,7 @@
 - `running`: a run of a program whose output is passed on
 - `judged`: how many lines of a clearing file were judged so far
 - `causes`: why a program stopped early, in words
+- `closed`: why a journal can't be opened, as far as it can be seen
 - `messages`: lines on the error output
 
 What builds or proves is in `issuer_host.building`, which an installed copy doesn't have.

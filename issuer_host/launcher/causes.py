@@ -5,6 +5,7 @@ from typing import NamedTuple, Optional
 
 from issuer_host.commands import COMMANDS, CONFIG, JOURNAL, value_of
 from issuer_host.journals import journal_path, old_journal_path
+from issuer_host.launcher.closed import why_closed
 from issuer_host.launcher.messages import tell
 from issuer_host.statuses import MEANINGS, Status
 
@@ -50,7 +51,12 @@ def cause_of(words: Sequence[str], line: LastLine) -> Optional[str]:
     said = OF_OLD_JOURNAL if line.is_old and line.status == Status.JOURNAL_WRONG else row.cause
     if line.status == Status.UNREADABLE:
         said = of_unreadable(words)
-    return said.format_map(context_of(words, line))
+    context = context_of(words, line)
+    if line.status == Status.JOURNAL_CLOSED:
+        seen = why_closed(str(context["old"]), False) or why_closed(str(context["new"]), True)
+        if seen:
+            return f"shard {context['first']}: {seen}"
+    return said.format_map(context)
 
 
 def of_unreadable(words: Sequence[str]) -> str:
