@@ -64,8 +64,9 @@ pub exact-record : (issuer : Setup) (shard : ℕ) (bytes : Option (List ℕ)) (w
     → HoldsHistory issuer shard bytes whole → (old records : List Filed) → AreBefore issuer shard old
     → (history : List Entry) (entry : Entry) (next : RecordReader)
     → HasRead next bytes (history ++ entry ∷ []) → records ≡ old ++ filed_in issuer shard history
-    → (fault : FilingFault) → IsRefused (fits issuer shard records entry) fault → is_bad fault ≡ false
-exact-record issuer shard bytes whole holds old records before history entry next read filed fault refused =
+    → (fault : FilingFault) (place : ℕ) → IsRefused place (fits issuer shard records entry) fault
+    → is_bad fault ≡ false
+exact-record issuer shard bytes whole holds old records before history entry next read filed fault place refused =
     let first = first-records issuer shard bytes whole holds (history ++ entry ∷ []) next read in
     let legal = legal-next (grounds_of issuer) shard history first.0 entry
     (subst (IsLegalHistory (grounds_of issuer) shard) first.1 holds.legal) in

@@ -16,9 +16,9 @@ use Rattle.journal_reader.specs.declared.reader.RecordReader.{RecordReader}
 use Rattle.journal_reader.specs.declared.reader.RecordFault.{RecordFault}
 use Rattle.journal_reader.specs.declared.reader.RecordFault.TheVariants.{StoreFault, BadLine}
 use Rattle.journal_reader.specs.Reading.{HasRead, StartsOtherwise}
-use Rattle.journal_reader.specs.Filing.{HoldsHistory, fault_of, is_bad}
+use Rattle.journal_reader.specs.Filing.{HasFirstRecords, HoldsHistory, fault_of, is_bad}
 use Rattle.journal_reader.proofs.Filed.{map-push}
-use Rattle.journal_reader.specs.Exporting.{HasFirstRecords, IsPut, feed_in, feed_text}
+use Rattle.journal_reader.specs.Exporting.{IsPut, feed_in, feed_text}
 
 -- ---- text that is put
 

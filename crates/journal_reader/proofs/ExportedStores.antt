@@ -1,5 +1,5 @@
 -- The journals of the first shards are put, and one more.
-use Rattle.std.proofs.Common.{◌≡◌, ◌≢◌, ℕ, ◌+◌, ◌<◌, ◌≤◌, Bool, false, ◌&&◌, List, [], ◌∷◌, ◌++◌, length, set, length-set}
+use Rattle.std.proofs.Common.{◌≡◌, ◌≢◌, ◌⊎◌, ◌==◌, ℕ, ◌+◌, ◌<◌, ◌≤◌, Bool, false, ◌&&◌, List, [], ◌∷◌, ◌++◌, length, set, length-set}
 use Rattle.std.proofs.Common.{None, Some, Option, Err, Ok, refl, sym, ap, subst, ◌∙◌, arith, inl, inr, eq-eqb, true}
 use Rattle.std.specs.List.{slice_get}
 use Rattle.std.specs.Prelude.{Result}
@@ -18,12 +18,14 @@ use Rattle.shard_book.specs.Loads.{IsOnlyRead}
 use Rattle.host_loading.specs.Loading.{AreOnlyRead}
 use Rattle.host_loading.proofs.Loads.{none-read}
 use Rattle.host_loading.proofs.Places.{read-other}
-use Rattle.journal_reader.specs.Reading.{has_failed}
-use Rattle.journal_reader.specs.Filing.{CountAt, HasRecords, HoldsHistory}
+use Rattle.journal_reader.specs.Reading.{StopsAfter, has_failed}
+use Rattle.journal_reader.specs.declared.reader.RecordFault.{RecordFault}
+use Rattle.journal_reader.specs.declared.reader.RecordFault.TheVariants.{StoreFault as ReadingFails, BadLine as ReadsBad}
+use Rattle.journal_reader.specs.Filing.{CountAt, HasFirstRecords, HasRecords, HoldsHistory}
 use Rattle.journal_reader.proofs.FiledStores.{each-set, get-front, get-last}
 use Rattle.journal_reader.specs.declared.export.ExportFault.{ExportFault}
 use Rattle.journal_reader.specs.declared.export.ExportFault.TheVariants.{WriteFault as SinkFault, Unread}
-use Rattle.journal_reader.specs.Exporting.{Exports, ExportsFirst, ExportsJournal, HasFirstRecords, IsPut, IsSparedIn}
+use Rattle.journal_reader.specs.Exporting.{Exports, ExportsAll, ExportsBefore, ExportsFirst, ExportsJournal, IsPut, IsSparedIn}
 use Rattle.journal_reader.specs.Exporting.{IsSparedJournal, Puts, fails_at, feed_in, feed_text, read_failed, write_failed}
 use Rattle.journal_reader.proofs.Exported.{feed-all-more, put-front, put-more, put-none}
 
@@ -87,10 +89,11 @@ module _ {S : Type 0} (G : Ghosts S) where
         ∙ sym (feed-all-more so_far.histories history)
 
     -- the next journal is put
-    pub put-next : (now : Option (List ℕ)) (left : List ℕ) → ExportsJournal shard (G.bytes old) due left mid now (Ok tt)
+    pub put-next : (count : ℕ) (now : Option (List ℕ)) (left : List ℕ)
+        → ExportsJournal shard (G.bytes old) count due left mid now (Ok tt)
         → CountsFaults (G.faults old) (G.faults then) false
         → ArePut olds (set read shard then) (shard + 1) before now left
-    put-next now left puts counts = record {
+    put-next count now left puts counts = record {
       histories = so_far.histories ++ puts.0 ∷ [];
       count_is = length_push so_far.histories puts.0 ∙ ap (λ n. n + 1) so_far.count_is;
       each = λ number store history store_is history_is.
@@ -112,7 +115,7 @@ module _ {S : Type 0} (G : Ghosts S) where
                 ∙ history_is)
           ];
       put = subst (IsPut before now [] left) (feed-is puts.0)
-          (put-more before mid now [] due (feed_text so_far.histories) so_far.put (feed_in shard puts.0) left puts.2);
+          (put-more before mid now [] due (feed_text so_far.histories) so_far.put (feed_in shard puts.0) left puts.3);
       only = only-set;
       behind = λ number past.
           read-other read shard then number (λ same. absurd (omega arith))
@@ -137,37 +140,46 @@ module _ {S : Type 0} (G : Ghosts S) where
     }
 
     -- the next journal can't be read on, or the sink failed
-    pub puts-short : (fault : ExportFault) (now : Option (List ℕ)) (left : List ℕ)
-        → ExportsJournal shard (G.bytes old) due left mid now (Err fault)
+    pub puts-short : (fault : ExportFault) (count : ℕ) (now : Option (List ℕ)) (left : List ℕ)
+        → ExportsJournal shard (G.bytes old) count due left mid now (Err fault)
         → Puts G.bytes olds left before now (Err fault)
-    puts-short SinkFault now left puts = (
+    unfolding first-put
+    puts-short SinkFault count now left puts = (
       shard,
       first-put puts.0 puts.1 (AppendsFront before now)
           (put-front before mid now [] due (feed_text so_far.histories) so_far.put (feed_in shard puts.0) puts.2),
     )
-    puts-short (Unread fault at) now left puts =
-        subst (λ n. ExportsFirst G.bytes olds n (IsPut before now [] left)) (sym puts.0)
-        (first-put puts.1.0 puts.1.1 (IsPut before now [] left)
-        (put-more before mid now [] due (feed_text so_far.histories) so_far.put (feed_in shard puts.1.0) left puts.1.2))
+    puts-short (Unread fault at) count now left puts =
+        subst (λ n. ExportsBefore G.bytes olds n fault (IsPut before now [] left)) (sym puts.0)
+        (record {
+          first =
+              first-put puts.1.0 puts.1.1 (IsPut before now [] left)
+              (put-more before mid now [] due (feed_text so_far.histories) so_far.put (feed_in shard puts.1.0) left
+              puts.1.4);
+          stops = λ store store_is.
+              subst (λ (s : S). StopsAfter (G.bytes s) puts.1.0 fault) (same_Some old store (sym first_is ∙ store_is))
+              puts.1.3;
+        })
 
-    pub counts-short : (fault : ExportFault) (now : Option (List ℕ)) (left : List ℕ)
-        → ExportsJournal shard (G.bytes old) due left mid now (Err fault)
+    pub counts-short : (fault : ExportFault) (count : ℕ) (now : Option (List ℕ)) (left : List ℕ)
+        → ExportsJournal shard (G.bytes old) count due left mid now (Err fault)
         → CountsFaults (G.faults old) (G.faults then) (read_failed (Err fault))
         → CountAt G.faults olds (set read shard then) (fails_at (Err fault))
-    counts-short SinkFault now left puts counts = counts-set (λ number. false) counts (λ number apart. refl)
-    counts-short (Unread fault at) now left puts counts =
+    counts-short SinkFault count now left puts counts = counts-set (λ number. false) counts (λ number apart. refl)
+    counts-short (Unread fault at) count now left puts counts =
         let failed = has_failed {X = Unit {0}} (Err fault) in
         counts-set (fails_at (Err (Unread fault at)))
         (subst (CountsFaults (G.faults old) (G.faults then))
         (ap (λ b. b && failed) (sym (eq-eqb at shard puts.0))) counts)
         (λ number apart. ap (λ b. b && failed) (ne_eqb at number (λ same. apart (sym same ∙ puts.0))))
 
-    pub spared-short : (issuer : Setup) (fault : ExportFault) (now : Option (List ℕ)) (left : List ℕ)
+    pub spared-short : (issuer : Setup) (fault : ExportFault) (count : ℕ) (now : Option (List ℕ)) (left : List ℕ)
         → shard < issuer.shards
-        → ExportsJournal shard (G.bytes old) due left mid now (Err fault) → IsSparedJournal (G.bytes old) shard fault
+        → ExportsJournal shard (G.bytes old) count due left mid now (Err fault)
+        → IsSparedJournal (G.bytes old) shard fault
         → IsSparedIn G.bytes issuer olds fault
-    spared-short issuer SinkFault now left within puts spared = tt
-    spared-short issuer (Unread fault at) now left within puts spared = (
+    spared-short issuer SinkFault count now left within puts spared = tt
+    spared-short issuer (Unread fault at) count now left within puts spared = (
       subst (λ n. n < issuer.shards) (sym puts.0) within,
       λ store history store_is holds.
           let here : slice_get olds shard ≡ Some store = subst (λ n. slice_get olds n ≡ Some store) puts.0 store_is in
@@ -179,7 +191,34 @@ module _ {S : Type 0} (G : Ghosts S) where
 
 -- ---- what is due at the end
 
-module _ {S : Type 0} (bytes : S → Option (List ℕ)) (stores : List S) (before mid now : Option (List ℕ)) (left : List ℕ) where
+-- the same stores failed
+count-same : {S : Type 0} (faults : S → ℕ) (stores read : List S) (failed others : ℕ → Bool)
+    → ((number : ℕ) → failed number ≡ others number) → CountAt faults stores read failed
+    → CountAt faults stores read others
+count-same faults stores read failed others same count number was is was_is is_is =
+    subst (CountsFaults (faults was) (faults is)) (same number) (count number was is was_is is_is)
+
+and_true : (b : Bool) → (b && true) ≡ b
+and_true true = refl
+and_true false = refl
+
+and_false : (b : Bool) → (b && false) ≡ false
+and_false true = refl
+and_false false = refl
+
+-- at most this shard's store failed
+one-failed : {S : Type 0} (faults : S → ℕ) (stores read : List S) (fault : RecordFault) (shard : ℕ)
+    → CountAt faults stores read (fails_at (Err (Unread fault shard)))
+    → CountAt faults stores read (λ number. false) ⊎ CountAt faults stores read (λ number. shard == number)
+one-failed faults stores read ReadingFails shard count =
+    inr (count-same faults stores read (λ number. (shard == number) && true) (λ number. shard == number)
+    (λ number. and_true (shard == number)) count)
+one-failed faults stores read (ReadsBad line) shard count =
+    inl (count-same faults stores read (λ number. (shard == number) && false) (λ number. false)
+    (λ number. and_false (shard == number)) count)
+
+module _ {S : Type 0} (bytes : S → Option (List ℕ)) (faults : S → ℕ) (stores read : List S)
+    (before mid now : Option (List ℕ)) (left : List ℕ) where
   all-written : (text : List ℕ) → IsPut before mid [] left text → Appends mid now left → Appends before now text
   all-written text put written =
       subst (Appends before now) put.joined (Appends-trans before mid now put.early left put.written written)
@@ -200,35 +239,51 @@ module _ {S : Type 0} (bytes : S → Option (List ℕ)) (stores : List S) (befor
 
   -- it is written
   pub exports-all : (result : Result (Unit {0}) ExportFault) → write_failed result ≡ false
-      → Puts bytes stores left before mid result → Appends mid now left → Exports bytes stores before now result
+      → Puts bytes stores left before mid result → Appends mid now left
+      → Exports bytes stores (CountAt faults stores read) before now result
+  unfolding all-written first-with
   exports-all (Ok done) none puts written = record {
     histories = puts.histories;
     have = puts.have;
     written = all-written _ puts.written written;
   }
   exports-all (Err (Unread fault shard)) none puts written =
-      first-with shard (IsPut before mid [] left) (Appends before now) (λ text put. all-written text put written) puts
+      record {
+        first =
+            first-with shard (IsPut before mid [] left) (Appends before now) (λ text put. all-written text put written)
+            puts.first;
+        stops = puts.stops;
+      }
   exports-all (Err SinkFault) none puts written = absurd (false≢true (sym none))
 
   -- the sink failed at it
   pub exports-front : (result : Result (Unit {0}) ExportFault) → write_failed result ≡ false
       → Puts bytes stores left before mid result → AppendsFront mid now left
-      → Exports bytes stores before now (Err SinkFault)
-  exports-front (Ok done) none puts front = inl (record {
-    histories = puts.histories;
-    have = puts.have;
-    written = front-written _ puts.written front;
-  })
-  exports-front (Err (Unread fault shard)) none puts front = inr (
-    shard,
-    first-with shard (IsPut before mid [] left) (AppendsFront before now) (λ text put. front-written text put front) puts,
+      → CountAt faults stores read (fails_at result)
+      → Exports bytes stores (CountAt faults stores read) before now (Err SinkFault)
+  exports-front (Ok done) none puts front count = inl (
+    record {
+      histories = puts.histories;
+      have = puts.have;
+      written = front-written _ puts.written front;
+    },
+    count,
   )
-  exports-front (Err SinkFault) none puts front = absurd (false≢true (sym none))
+  exports-front (Err (Unread fault shard)) none puts front count = inr (
+    shard,
+    first-with shard (IsPut before mid [] left) (AppendsFront before now) (λ text put. front-written text put front)
+        puts.first,
+    one-failed faults stores read fault shard count,
+  )
+  exports-front (Err SinkFault) none puts front count = absurd (false≢true (sym none))
 
 -- the sink failed before the end
-pub exports-short : {S : Type 0} (bytes : S → Option (List ℕ)) (stores : List S) (left : List ℕ)
+pub exports-short : {S : Type 0} (bytes : S → Option (List ℕ)) (faults : S → ℕ) (stores read : List S) (left : List ℕ)
     (before now : Option (List ℕ)) (result : Result (Unit {0}) ExportFault) → write_failed result ≡ true
-    → Puts bytes stores left before now result → Exports bytes stores before now result
-exports-short bytes stores left before now (Ok done) failed puts = absurd (false≢true failed)
-exports-short bytes stores left before now (Err (Unread fault shard)) failed puts = absurd (false≢true failed)
-exports-short bytes stores left before now (Err SinkFault) failed puts = inr puts
+    → Puts bytes stores left before now result → CountAt faults stores read (fails_at result)
+    → Exports bytes stores (CountAt faults stores read) before now result
+exports-short bytes faults stores read left before now (Ok done) failed puts count = absurd (false≢true failed)
+exports-short bytes faults stores read left before now (Err (Unread fault shard)) failed puts count =
+    absurd (false≢true failed)
+exports-short bytes faults stores read left before now (Err SinkFault) failed puts count =
+    inr (puts.0, puts.1, inl count)

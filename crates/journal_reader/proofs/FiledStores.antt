@@ -18,8 +18,8 @@ use Rattle.host_loading.proofs.Places.{read-other, read-written}
 use Rattle.clearing_check.specs.declared.filed.Filed.{Filed}
 use Rattle.journal_reader.specs.declared.filing.FilingFault.{FilingFault}
 use Rattle.journal_reader.specs.declared.filing.NotFiled.{NotFiled}
-use Rattle.journal_reader.specs.Filing.{AreBefore, CountAt, FilesJournal, HasRecords, IsSpared, filed_in, filed_records}
-use Rattle.journal_reader.specs.Filing.{HoldsHistory, fails_at, is_bad, is_store_fault}
+use Rattle.journal_reader.specs.Filing.{AreBefore, CountAt, FilesAll, FilesBefore, FilesJournal, HasRecords, IsSpared, StopsFiling}
+use Rattle.journal_reader.specs.Filing.{HoldsHistory, fails_at, filed_in, filed_records, is_bad, is_store_fault}
 use Rattle.journal_reader.proofs.Filed.{all-more}
 
 -- ---- lists with one more, and with one changed
@@ -161,3 +161,28 @@ module _ {S : Type 0} (G : Ghosts S) (issuer : Setup) where
       spares exact = λ store history store_is holds.
           let its : store ≡ old = same_Some store old (sym store_is ∙ first_is) in
           exact history (subst (λ (s : S). HoldsHistory issuer shard (G.bytes s) history) its holds) so_far.before
+
+      -- those before it are, and its first records
+      pub files-before : (new : List Filed) → StopsFiling issuer shard (G.bytes old) book new fault
+          → FilesBefore G.bytes issuer olds none new
+      files-before new stops =
+          subst (λ (n : NotFiled). FilesBefore G.bytes issuer olds n new) (sym none_is)
+          (record {
+            histories = so_far.histories;
+            count_is = so_far.count_is;
+            each = so_far.each;
+            stops = λ store store_is.
+                subst
+                (λ (s : S). StopsFiling issuer shard (G.bytes s) (filed_records issuer so_far.histories) new fault)
+                (same_Some old store (sym first_is ∙ store_is))
+                (subst (λ (l : List Filed). StopsFiling issuer shard (G.bytes old) l new fault) so_far.filed_are stops);
+          })
+
+  -- all are filed
+  pub files-all : (olds read : List S) (shard : ℕ) (book : List Filed) → AreFiled olds read shard book
+      → shard ≡ length olds → FilesAll G.bytes issuer olds book
+  files-all olds read shard book filed all = record {
+    histories = filed.histories;
+    have = record { count_is = filed.count_is ∙ all; each = filed.each };
+    filed_are = filed.filed_are;
+  }

@@ -5,4 +5,5 @@ pub mod LegalTexts
 pub mod Exact
 pub mod FiledStores
 pub mod Exported
+pub mod FilingStops
 pub mod ExportedStores

@@ -1,17 +1,16 @@
 -- What an export writes of journals: the feed lines of the records of all histories, by shard and index.
 use Rattle.std.specs.Prelude.{◌≡◌, ◌⊎◌, ℕ, ◌<◌, Bool, ◌&&◌, ◌==◌, true, false, List, [], ◌∷◌, ◌++◌, length, slice_get}
-use Rattle.std.specs.Prelude.{All, Option, Some, IfSome, Result, Ok, Err}
+use Rattle.std.specs.Prelude.{Option, Some, Result, Ok, Err}
 use Rattle.std.specs.List.{enumerate_from, flat_map}
 use Rattle.std.specs.Io.KnownBytes.{Appends}
 use Rattle.issuer_base.specs.Sink.{AppendsFront}
 use Rattle.issuer_base.specs.declared.entry.Entry.{Entry}
 use Rattle.issuer_base.specs.declared.faults.WriteFault.{WriteFault}
 use Rattle.issuer_setup.specs.IssuerSetup.{Setup}
-use Rattle.journal_rec.specs.Record.{IsRecord}
-use Rattle.journal_rec.specs.RecordText.{journal_text}
 use Rattle.feed_text.specs.FeedText.{feed_line}
-use Rattle.journal_reader.specs.Reading.{has_failed}
-use Rattle.journal_reader.specs.Filing.{HasRecords, HaveRecords, HoldsHistory, IsSpared, fault_of, is_bad}
+use Rattle.journal_reader.specs.Reading.{StopsAfter, has_failed}
+use Rattle.journal_reader.specs.Filing.{HasFirstRecords, HasRecords, HaveRecords, HoldsHistory, IsSpared, fault_of, is_bad}
+use Rattle.journal_reader.specs.declared.reader.RecordFault.{RecordFault}
 use Rattle.journal_reader.specs.declared.export.ExportFault.{ExportFault}
 use Rattle.journal_reader.specs.declared.export.ExportFault.TheVariants.{WriteFault as SinkFault, Unread}
 
@@ -24,12 +23,6 @@ feed_in shard history = flat_map (λ numbered. feed_line shard numbered.0 number
 -- the feed of the histories of all shards, in order
 abbrev pub feed_text : List (List Entry) → List ℕ
 feed_text histories = flat_map (λ numbered. feed_in numbered.0 numbered.1) (enumerate_from 0 histories)
-
--- a store begins with the records of this history: where its bytes are observable, and the history isn't empty, the
--- history's text is a prefix of them
-pub record HasFirstRecords (bytes : Option (List ℕ)) (history : List Entry) : Type 0 where
-  pub records : All IsRecord history
-  pub front : IfSome bytes (λ text. (history ≡ []) ⊎ ((ahead : List ℕ) × (text ≡ journal_text history ++ ahead)))
 
 -- the first stores have the records of these histories, and the store of this shard, which is next, begins with those
 -- of one more history
@@ -50,6 +43,12 @@ pub record ExportsFirst {S : Type 0} (bytes : S → Option (List ℕ)) (stores :
   pub have : HaveFirstRecords bytes stores shard histories history
   pub written : Written (feed_text (histories ++ history ∷ []))
 
+-- the feed of the records before a shard's, and of all those of the shard that come before what can't be read
+pub record ExportsBefore {S : Type 0} (bytes : S → Option (List ℕ)) (stores : List S) (shard : ℕ) (fault : RecordFault)
+    (Written : List ℕ → Type 0) : Type 0 where
+  pub first : ExportsFirst bytes stores shard Written
+  pub stops : (store : S) → slice_get stores shard ≡ Some store → StopsAfter (bytes store) first.history fault
+
 -- the feed of all records
 pub record ExportsAll {S : Type 0} (bytes : S → Option (List ℕ)) (stores : List S) (Written : List ℕ → Type 0)
     : Type 0 where
@@ -58,15 +57,18 @@ pub record ExportsAll {S : Type 0} (bytes : S → Option (List ℕ)) (stores : L
   pub written : Written (feed_text histories)
 
 -- what an export did, by how it ended: the sink has the feed of all records; or that of the records before the one that
--- can't be read; or a proper prefix of the feed of all records, or of some first ones
-abbrev pub Exports : {S : Type 0} → (S → Option (List ℕ)) → List S → Option (List ℕ) → Option (List ℕ)
-    → Result (Unit {0}) ExportFault → Type 0
-Exports bytes stores held_before held_after (Ok done) = ExportsAll bytes stores (Appends held_before held_after)
-Exports bytes stores held_before held_after (Err (Unread fault shard)) =
-    ExportsFirst bytes stores shard (Appends held_before held_after)
-Exports bytes stores held_before held_after (Err SinkFault) =
-    ExportsAll bytes stores (AppendsFront held_before held_after)
-    ⊎ ((shard : ℕ) × ExportsFirst bytes stores shard (AppendsFront held_before held_after))
+-- can't be read; or a proper prefix of the feed of all records, or of some first ones. In the last case the store of the
+-- first shard that isn't exported whole may have failed before the sink did, and no other
+abbrev pub Exports : {S : Type 0} → (S → Option (List ℕ)) → List S → ((ℕ → Bool) → Type 0) → Option (List ℕ)
+    → Option (List ℕ) → Result (Unit {0}) ExportFault → Type 0
+Exports bytes stores Counted held_before held_after (Ok done) =
+    ExportsAll bytes stores (Appends held_before held_after)
+Exports bytes stores Counted held_before held_after (Err (Unread fault shard)) =
+    ExportsBefore bytes stores shard fault (Appends held_before held_after)
+Exports bytes stores Counted held_before held_after (Err SinkFault) =
+    (ExportsAll bytes stores (AppendsFront held_before held_after) × Counted (λ number. false))
+    ⊎ ((shard : ℕ) × ExportsFirst bytes stores shard (AppendsFront held_before held_after)
+    × (Counted (λ number. false) ⊎ Counted (λ number. shard == number)))
 
 -- ---- blocks
 
@@ -82,15 +84,17 @@ abbrev pub WritesLine : List ℕ → List ℕ → List ℕ → Option (List ℕ)
 WritesLine line due left held_before held_after (Ok done) = IsPut held_before held_after due left line
 WritesLine line due left held_before held_after (Err fault) = AppendsFront held_before held_after (due ++ line)
 
--- the feed lines of a shard's records follow what was due: of all, or of the first ones; or the sink failed at a prefix
-abbrev pub ExportsJournal : ℕ → Option (List ℕ) → List ℕ → List ℕ → Option (List ℕ) → Option (List ℕ)
+-- the feed lines of a shard's records follow what was due: of all, or of those before one that can't be read, and in
+-- both cases of as many as were read; or the sink failed at a prefix
+abbrev pub ExportsJournal : ℕ → Option (List ℕ) → ℕ → List ℕ → List ℕ → Option (List ℕ) → Option (List ℕ)
     → Result (Unit {0}) ExportFault → Type 0
-ExportsJournal shard bytes due left held_before held_after (Ok done) =
-    (history : List Entry) × HasRecords bytes history × IsPut held_before held_after due left (feed_in shard history)
-ExportsJournal shard bytes due left held_before held_after (Err (Unread fault at)) =
-    (at ≡ shard) × ((history : List Entry) × HasFirstRecords bytes history
-    × IsPut held_before held_after due left (feed_in shard history))
-ExportsJournal shard bytes due left held_before held_after (Err SinkFault) =
+ExportsJournal shard bytes count due left held_before held_after (Ok done) =
+    (history : List Entry) × HasRecords bytes history × (count ≡ length history)
+    × IsPut held_before held_after due left (feed_in shard history)
+ExportsJournal shard bytes count due left held_before held_after (Err (Unread fault at)) =
+    (at ≡ shard) × ((history : List Entry) × HasFirstRecords bytes history × (count ≡ length history)
+    × StopsAfter bytes history fault × IsPut held_before held_after due left (feed_in shard history))
+ExportsJournal shard bytes count due left held_before held_after (Err SinkFault) =
     (history : List Entry) × HasFirstRecords bytes history
     × AppendsFront held_before held_after (due ++ feed_in shard history)
 
@@ -99,7 +103,7 @@ abbrev pub Puts : {S : Type 0} → (S → Option (List ℕ)) → List S → List
     → Result (Unit {0}) ExportFault → Type 0
 Puts bytes stores left held_before held_after (Ok done) = ExportsAll bytes stores (IsPut held_before held_after [] left)
 Puts bytes stores left held_before held_after (Err (Unread fault shard)) =
-    ExportsFirst bytes stores shard (IsPut held_before held_after [] left)
+    ExportsBefore bytes stores shard fault (IsPut held_before held_after [] left)
 Puts bytes stores left held_before held_after (Err SinkFault) =
     (shard : ℕ) × ExportsFirst bytes stores shard (AppendsFront held_before held_after)
 

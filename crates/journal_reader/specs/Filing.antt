@@ -1,5 +1,5 @@
 -- What is filed of journals for a clearing check: the decided records of all histories, by shard and index.
-use Rattle.std.specs.Prelude.{◌≡◌, ◌⊎◌, ℕ, ◌<◌, ◌%◌, Bool, ◌&&◌, not, ◌==◌, true, false, List, ◌++◌, length, slice_get}
+use Rattle.std.specs.Prelude.{◌≡◌, ◌⊎◌, ℕ, ◌+◌, ◌<◌, ◌%◌, Bool, ◌&&◌, not, ◌==◌, true, false, List, [], ◌∷◌, ◌++◌, length, slice_get}
 use Rattle.std.specs.Prelude.{All, Option, None, Some, IfSome, Result, Err}
 use Rattle.std.specs.List.{enumerate_from, flat_map, list_any}
 use Rattle.issuer_base.specs.OutsideFaults.{CountsFaults}
@@ -16,6 +16,7 @@ use Rattle.shard_book.specs.Versions.{HasText}
 use Rattle.shard_book.specs.declared.replay.Version.TheVariants.{Two}
 use Rattle.journal_reader.specs.declared.reader.RecordFault.{RecordFault}
 use Rattle.journal_reader.specs.declared.reader.RecordFault.TheVariants.{StoreFault as ReadingFails, BadLine as ReadsBad}
+use Rattle.journal_reader.specs.Reading.{StopsAfter}
 use Rattle.clearing_check.specs.declared.filed.Filed.{Filed}
 use Rattle.clearing_check.specs.Records.{has_atc}
 use Rattle.clearing_check.specs.Verdicts.{filed_of}
@@ -40,6 +41,12 @@ filed_records issuer histories =
 pub record HasRecords (bytes : Option (List ℕ)) (history : List Entry) : Type 0 where
   pub records : All IsRecord history
   pub text_is : IfSome bytes (HasText Two history)
+
+-- a store begins with the records of this history: where its bytes are observable, and the history isn't empty, the
+-- history's text is a prefix of them
+pub record HasFirstRecords (bytes : Option (List ℕ)) (history : List Entry) : Type 0 where
+  pub records : All IsRecord history
+  pub front : IfSome bytes (λ text. (history ≡ []) ⊎ ((ahead : List ℕ) × (text ≡ journal_text history ++ ahead)))
 
 -- each store has the records of the history with its index
 pub record HaveRecords {S : Type 0} (bytes : S → Option (List ℕ)) (stores : List S) (histories : List (List Entry))
@@ -96,9 +103,44 @@ abbrev pub is_bad : FilingFault → Bool
 is_bad (BadLine line) = true
 is_bad _ = false
 
--- why a record isn't filed, by whether it may be: it may not, or memory ran out
-abbrev pub IsRefused : Bool → FilingFault → Type 0
-IsRefused may fault = ((may ≡ false) × (is_bad fault ≡ true)) ⊎ (fault ≡ NoMemory)
+-- why the record at this index isn't filed, by whether it may be: it may not, and its line is bad, or memory ran out
+abbrev pub IsRefused : ℕ → Bool → FilingFault → Type 0
+IsRefused place may fault = ((may ≡ false) × (fault ≡ BadLine (place + 2))) ⊎ (fault ≡ NoMemory)
+
+-- the record after this history, on this line, may not be filed after these
+pub record MayNotFile (issuer : Setup) (shard : ℕ) (bytes : Option (List ℕ)) (records : List Filed)
+    (history : List Entry) (line : ℕ) : Type 0 where
+  pub entry : Entry
+  pub has : HasFirstRecords bytes (history ++ entry ∷ [])
+  pub refused : fits issuer shard records entry ≡ false
+  pub line_is : line ≡ length history + 2
+
+-- why no record is filed after those of this history: the store failed, or memory ran out; or the next line is bad, or
+-- its record may not be filed
+abbrev pub StopsFilingAt : Setup → ℕ → Option (List ℕ) → List Filed → List Entry → FilingFault → Type 0
+StopsFilingAt issuer shard bytes records history StoreFault = Unit {0}
+StopsFilingAt issuer shard bytes records history (BadLine line) =
+    StopsAfter bytes history (ReadsBad line) ⊎ MayNotFile issuer shard bytes records history line
+StopsFilingAt issuer shard bytes records history NoMemory = Unit {0}
+
+-- the first records of a journal were filed after the others, and why no more are
+pub record StopsFiling (issuer : Setup) (shard : ℕ) (bytes : Option (List ℕ)) (old new : List Filed)
+    (fault : FilingFault) : Type 0 where
+  pub history : List Entry
+  pub has : HasFirstRecords bytes history
+  pub filed_are : new ≡ old ++ filed_in issuer shard history
+  pub stops : StopsFilingAt issuer shard bytes new history fault
+
+-- the journals before this shard's are filed, and the first records of its journal
+pub record FilesBefore {S : Type 0} (bytes : S → Option (List ℕ)) (issuer : Setup) (stores : List S) (none : NotFiled)
+    (new : List Filed) : Type 0 where
+  pub histories : List (List Entry)
+  pub count_is : length histories ≡ none.shard
+  pub each : (number : ℕ) (store : S) (history : List Entry)
+      → slice_get stores number ≡ Some store → slice_get histories number ≡ Some history
+      → HasRecords (bytes store) history
+  pub stops : (store : S) → slice_get stores none.shard ≡ Some store
+      → StopsFiling issuer none.shard (bytes store) (filed_records issuer histories) new none.fault
 
 -- the store's bytes are known: the text of this legal history
 pub record HoldsHistory (issuer : Setup) (shard : ℕ) (bytes : Option (List ℕ)) (history : List Entry) : Type 0 where

@@ -1,6 +1,6 @@
 -- What a reader has read of a journal's text, and where it stops.
-use Rattle.std.specs.Prelude.{◌≡◌, ◌≢◌, ℕ, ◌+◌, ◌≤◌, Bool, true, false, List, [], ◌∷◌, ◌++◌, length, take, drop, slice_range}
-use Rattle.std.specs.Prelude.{All, Option, None, Some, IfSome, Result, Err}
+use Rattle.std.specs.Prelude.{◌≡◌, ◌≢◌, ◌⊎◌, ℕ, ◌+◌, ◌≤◌, Bool, true, false, List, [], ◌∷◌, ◌++◌, length, take, drop, slice_range}
+use Rattle.std.specs.Prelude.{All, Option, None, Some, IfSome, Result, Ok, Err}
 use Rattle.issuer_base.specs.declared.entry.Entry.{Entry}
 use Rattle.journal_rec.specs.Record.{IsRecord, IsLineOf}
 use Rattle.journal_rec.specs.RecordText.{newline, version_line, journal_text, IsUnbroken}
@@ -53,6 +53,16 @@ abbrev pub StartsOtherwise : Option (List ℕ) → RecordFault → Type 0
 StartsOtherwise bytes StoreFault = Unit {0}
 StartsOtherwise bytes (BadLine line) =
     (line ≡ 1) × IfSome bytes (λ text. (rest : List ℕ) → text ≢ version_line ++ rest)
+
+-- why a journal isn't read on after the records of this history: as a reader stops there, or since none is begun
+abbrev pub StopsAfter : Option (List ℕ) → List Entry → RecordFault → Type 0
+StopsAfter bytes history fault = Stops bytes history fault ⊎ ((history ≡ []) × StartsOtherwise bytes fault)
+
+-- how many records a call read
+abbrev pub read_by : Result (Option Entry) RecordFault → ℕ
+read_by (Ok (Some entry)) = 1
+read_by (Ok None) = 0
+read_by (Err fault) = 0
 
 -- whether the store failed
 abbrev pub has_failed : {X : Type 0} → Result X RecordFault → Bool

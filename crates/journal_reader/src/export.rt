@@ -57,7 +57,8 @@ impl Exporter {
     ) -> Result<(), ExportFault>
         requires count { length stores.old.items ≡ issuer.now.shards }
         requires empty { self.old.block.text.items ≡ [] }
-        ensures exported { Exports S.bytes stores.old.items (W.held out.old) (W.held out.new) result }
+        ensures exported { Exports S.bytes stores.old.items (CountAt S.faults stores.old.items stores.new.items)
+            (W.held out.old) (W.held out.new) result }
 
         // A store whose bytes are known to be the text of a legal history has no bad line.
         ensures exact { IfErr result (IsSparedIn S.bytes issuer.now stores.old.items) }
@@ -108,8 +109,8 @@ impl Exporter {
         store: &mut S,
         out: &mut W,
     ) -> Result<(), ExportFault>
-        ensures put { ExportsJournal shard (S.bytes store.old) self.old.block.text.items self.new.block.text.items
-            (W.held out.old) (W.held out.new) result }
+        ensures put { ExportsJournal shard (S.bytes store.old) self.new.reader.records self.old.block.text.items
+            self.new.block.text.items (W.held out.old) (W.held out.new) result }
         ensures exact { IfErr result (IsSparedJournal (S.bytes store.old) shard) }
         ensures only_read { IsOnlyRead S.size S.bytes S.disk S.room store.old store.new }
         ensures store_count { CountsFaults (S.faults store.old) (S.faults store.new) (read_failed result) }

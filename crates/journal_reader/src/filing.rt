@@ -1,5 +1,5 @@
 //! Files the decided records of journals, one journal after another.
-ghost use Rattle.std.specs.Prelude.{◌≡◌, ℕ, ◌+◌, ◌^◌, ◌<◌, List, [], ◌++◌, length, IfOk, IfErr, OnOk, true, false};
+ghost use Rattle.std.specs.Prelude.{◌≡◌, ℕ, ◌+◌, ◌^◌, ◌<◌, List, [], ◌++◌, length, IfOk, IfErr, OnOk, OnErr, true, false};
 ghost use Rattle.issuer_base.specs.OutsideFaults.{CountsFaults};
 ghost use Rattle.issuer_base.specs.declared.entry.Entry.{Entry};
 ghost use Rattle.issuer_base.specs.CardNames.{named};
@@ -7,7 +7,8 @@ ghost use Rattle.issuer_setup.specs.CardList.{number_of};
 ghost use Rattle.shard_book.specs.Loads.{IsOnlyRead};
 ghost use Rattle.host_loading.specs.Loading.{AreOnlyRead};
 ghost use Rattle.clearing_check.specs.Verdicts.{filed_of};
-ghost use Rattle.journal_reader.specs.Filing.{AreBefore, CountAt, FilesAll, FilesJournal, HoldsHistory, IsRefused};
+ghost use Rattle.journal_reader.specs.Filing.{AreBefore, CountAt, FilesAll, FilesBefore, FilesJournal, HoldsHistory, IsRefused};
+ghost use Rattle.journal_reader.specs.Filing.{StopsFiling};
 ghost use Rattle.journal_reader.specs.Filing.{IsSpared, fault_of, fits, is_at_home, is_bad, is_store_fault, fails_at};
 
 use crate::reader::{RecordFault, RecordReader};
@@ -51,6 +52,9 @@ pub fn file_journals<S: Store>(
     requires empty { book.old ≡ [] }
     ensures filed { OnOk result (FilesAll S.bytes issuer.now stores.old.items book.new) }
 
+    // Where not all are filed, the first ones are, up to the record that can't be.
+    ensures stopped { IfErr result (λ none. FilesBefore S.bytes issuer.now stores.old.items none book.new) }
+
     // A store whose bytes are known to be the text of a legal history has no bad line.
     ensures exact { IfErr result (λ none. none.shard < issuer.now.shards
         × IsSpared S.bytes issuer.now stores.old.items none.shard none.fault) }
@@ -76,6 +80,7 @@ fn file_journal<S: Store>(
     book: &mut Book,
 ) -> Result<(), FilingFault>
     ensures filed { OnOk result (FilesJournal issuer.now shard (S.bytes store.old) book.old book.new) }
+    ensures stopped { IfErr result (StopsFiling issuer.now shard (S.bytes store.old) book.old book.new) }
     ensures before { OnOk result (AreBefore issuer.now shard book.old → AreBefore issuer.now (shard + 1) book.new) }
     ensures exact { (history : List Entry) → HoldsHistory issuer.now shard (S.bytes store.old) history
         → AreBefore issuer.now shard book.old → IfErr result (λ fault. is_bad fault ≡ false) }
@@ -110,7 +115,8 @@ fn file_record(
     requires { place + 2 < 2 ^ 64 }
     ensures filed { OnOk result (book.new ≡ book.old ++ filed_of issuer.now shard place entry.now) }
     ensures fit { OnOk result (fits issuer.now shard book.old entry.now ≡ true) }
-    ensures refused { IfErr result (IsRefused (fits issuer.now shard book.old entry.now)) }
+    ensures refused { IfErr result (IsRefused place (fits issuer.now shard book.old entry.now)) }
+    ensures kept { OnErr result (book.new ≡ book.old) }
 {
     if !fits(issuer, shard, entry, book) {
         return Err(FilingFault::BadLine(place + 2));

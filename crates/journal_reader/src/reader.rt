@@ -49,6 +49,7 @@ pub struct RecordReader {
 
 impl RecordReader {
     ghost use Rattle.journal_reader.specs.Reading.{HasRead, IsBuffered, IsWithin, Gives, Stops, StartsOtherwise, ahead_of, has_failed};
+    ghost use Rattle.journal_reader.specs.Reading.{read_by};
 
     /// A reader that has read nothing. Only this call allocates.
     pub fn new(alloc: Global) -> Result<Self, NoMemory> {
@@ -66,6 +67,7 @@ impl RecordReader {
         ensures read { OnOk result (HasRead self.new (S.bytes store.old) []) }
         ensures within { OnOk result (IsWithin self.new (S.size store.old)) }
         ensures stopped { IfErr result (StartsOtherwise (S.bytes store.old)) }
+        ensures none { self.new.records ≡ 0 }
         ensures only_read { IsOnlyRead S.size S.bytes S.disk S.room store.old store.new }
         ensures count { CountsFaults (S.faults store.old) (S.faults store.new) (has_failed result) }
     {
@@ -85,6 +87,7 @@ impl RecordReader {
     /// The next record, or none where no whole line is left.
     pub fn next_record<S: Store>(&mut self, store: &mut S) -> Result<Option<Entry>, RecordFault>
         requires within { IsWithin self.old (S.size store.old) }
+        ensures counted { self.new.records ≡ self.old.records + read_by result }
         ensures given { (history : List Entry) → HasRead self.old (S.bytes store.old) history
             → IfOk result (Gives self.new (S.bytes store.old) history) }
         ensures stopped { (history : List Entry) → HasRead self.old (S.bytes store.old) history
@@ -138,6 +141,7 @@ impl RecordReader {
     /// Takes the next line, of so many bytes, which is in memory.
     fn take_line(&mut self, length: usize) -> Result<Option<Entry>, RecordFault>
         requires { IsLineAhead (ahead_of self.old) length }
+        ensures counted { self.new.records ≡ self.old.records + read_by result }
         ensures given { (bytes : Option (List ℕ)) (history : List Entry) → HasRead self.old bytes history
             → IfOk result (Gives self.new bytes history) }
         ensures stopped { (bytes : Option (List ℕ)) (history : List Entry) → HasRead self.old bytes history
@@ -161,6 +165,7 @@ impl RecordReader {
         requires ahead { IsUnbroken (ahead_of self.old)
             × (length (ahead_of self.old) ≡ min (vec_len self.old.buffer) (S.size store.old - self.old.taken)) }
         requires within { self.old.taken ≤ S.size store.old }
+        ensures counted { self.new.records ≡ self.old.records }
         ensures given { (history : List Entry) → HasRead self.old (S.bytes store.old) history
             → IfOk result (Gives self.new (S.bytes store.old) history) }
         ensures stopped { (history : List Entry) → HasRead self.old (S.bytes store.old) history

@@ -5,7 +5,7 @@ use Rattle.std.specs.List.{slice_get}
 use Rattle.host_loading.specs.Loading.{AreOnlyRead}
 use Rattle.journal_reader.specs.declared.filing.NotFiled.{NotFiled}
 use Rattle.journal_reader.specs.Filing.{CountAt, fails_at}
-use Rattle.journal_reader.proofs.FiledStores.{AreFiled, are-more, are-none, counts-failed, only-set, spares}
+use Rattle.journal_reader.proofs.FiledStores.{AreFiled, are-more, are-none, counts-failed, files-before, only-set, spares}
 use Rattle.journal_reader.proofs.filing.file_journals.Given.{Over}
 use Rattle.journal_reader.proofs.filing.file_journals.Goals.{After-file_journal}
 use Rattle.journal_reader.proofs.filing.file_journals.Goals as goal
@@ -61,6 +61,15 @@ returns-in-Err-clause-count g c =
     (counts-failed g.S.Store c.args.issuer.now c.args.stores.now.items c.loop-shard.stores.items c.loop-shard.shard
     c.loop-shard.book c.loop-shard.invariant.filed c.index_mut-store.result.now c.file_journal.new.store
     (store-is g before) c.in-Err.ensures.only_read c.in-Err.fault none refl _ refl c.in-Err.ensures.count)
+
+pub returns-in-Err-clause-stopped : goal.returns-in-Err-clause-stopped
+returns-in-Err-clause-stopped g c =
+    let before = (goal.at.returns-in-Err-clause-stopped g c).After-file_journal in
+    let none : NotFiled = record { fault = c.in-Err.fault; shard = c.loop-shard.shard } in
+    files-before g.S.Store c.args.issuer.now c.args.stores.now.items c.loop-shard.stores.items c.loop-shard.shard
+    c.loop-shard.book c.loop-shard.invariant.filed c.index_mut-store.result.now c.file_journal.new.store
+    (store-is g before) c.in-Err.ensures.only_read c.in-Err.fault none refl c.file_journal.new.book
+    c.in-Err.ensures.stopped
 
 pub returns-in-Err-clause-exact : goal.returns-in-Err-clause-exact
 returns-in-Err-clause-exact g c =

@@ -43,7 +43,7 @@ loop-shard-preserved g c =
           (sym c.from.ensures)
           (put-next g.S.Store c.args.stores.now.items c.loop-shard.stores.items c.loop-shard.shard _ _ _
           c.loop-shard.invariant.put c.index_mut-store.result.now c.put_journal.new.store
-          (store-is g before) c.in-Ok.ensures.only_read _ _ c.in-Ok.ensures.put c.in-Ok.ensures.store_count);
+          (store-is g before) c.in-Ok.ensures.only_read _ _ _ c.in-Ok.ensures.put c.in-Ok.ensures.store_count);
       stood = CountsFaults-then _ _ _ _ _ c.loop-shard.invariant.stood c.in-Ok.ensures.sink_count;
     }
 
@@ -52,7 +52,7 @@ returns-in-Err-clause-put g c =
     let before = (goal.at.returns-in-Err-clause-put g c).After-put_journal in
     puts-short g.S.Store c.args.stores.now.items c.loop-shard.stores.items c.loop-shard.shard _ _ _
     c.loop-shard.invariant.put c.index_mut-store.result.now c.put_journal.new.store
-    (store-is g before) c.in-Err.ensures.only_read c.in-Err.fault _ _ c.in-Err.ensures.put
+    (store-is g before) c.in-Err.ensures.only_read c.in-Err.fault _ _ _ c.in-Err.ensures.put
 
 pub returns-in-Err-clause-only_read : goal.returns-in-Err-clause-only_read
 returns-in-Err-clause-only_read g c =
@@ -70,7 +70,7 @@ returns-in-Err-clause-store_count g c =
     (set c.loop-shard.stores.items place c.put_journal.new.store) (fails_at (Err c.in-Err.fault))) (sym c.from.ensures)
     (counts-short g.S.Store c.args.stores.now.items c.loop-shard.stores.items c.loop-shard.shard _ _ _
     c.loop-shard.invariant.put c.index_mut-store.result.now c.put_journal.new.store
-    (store-is g before) c.in-Err.ensures.only_read c.in-Err.fault _ _ c.in-Err.ensures.put
+    (store-is g before) c.in-Err.ensures.only_read c.in-Err.fault _ _ _ c.in-Err.ensures.put
     c.in-Err.ensures.store_count)
 
 pub returns-in-Err-clause-exact : goal.returns-in-Err-clause-exact
@@ -78,6 +78,6 @@ returns-in-Err-clause-exact g c =
     let before = (goal.at.returns-in-Err-clause-exact g c).After-put_journal in
     spared-short g.S.Store c.args.stores.now.items c.loop-shard.stores.items c.loop-shard.shard _ _ _
     c.loop-shard.invariant.put c.index_mut-store.result.now c.put_journal.new.store
-    (store-is g before) c.in-Err.ensures.only_read c.args.issuer.now c.in-Err.fault _ _
+    (store-is g before) c.in-Err.ensures.only_read c.args.issuer.now c.in-Err.fault _ _ _
     (omega (arith, c.loop-shard-test.true, c.shards-shard-end.ensures.count)) c.in-Err.ensures.put
     c.in-Err.ensures.exact
