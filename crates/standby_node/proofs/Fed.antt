@@ -73,7 +73,7 @@ module _ {S : Type 0} {G : Ghosts S} (issuer : Setup) (in_doubt : ℕ → Bool) 
           (record { line = before.taken.rest ++ bytes; stops = stops; bad = bad })),
       hold,
     )
-    fed-fault (StoreFault shard) node after (same, next, hold) = record {
+    fed-fault (StoreFault shard) node after (same, next, hold, in_hand) = record {
       number = line_number old.lines;
       line = before.taken.rest ++ bytes;
       history = next.history;
@@ -81,6 +81,7 @@ module _ {S : Type 0} {G : Ghosts S} (issuer : Setup) (in_doubt : ℕ → Bool) 
       stops = subst (StopsAt issuer opening (stream ++ (bytes ++ 10 ∷ more)) (line_number old.lines) (before.taken.rest ++ bytes)) (sym same) stops;
       next = subst (λ (h : List (List Entry)). IsNext issuer h (before.taken.rest ++ bytes) shard next.history next.entry) (sym same) next.next;
       hold = hold;
+      in_hand = in_hand;
     }
 
   -- the line that they end is taken

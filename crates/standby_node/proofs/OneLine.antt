@@ -1,8 +1,8 @@
 -- What a whole line does to the shards of a node, by what the shard that it names does with its record.
-use Rattle.std.proofs.Common.{◌≡◌, ◌≢◌, ℕ, ◌<◌, ◌==◌, ◌||◌, Bool, true, false, List, [], ◌∷◌, ◌++◌, length, set, Some, Ok, Err, Result, MatchBool, inl, inr, refl, sym, subst, arith, eq-eqb, length-append}
+use Rattle.std.proofs.Common.{◌≡◌, ◌≢◌, ℕ, ◌<◌, ◌==◌, ◌||◌, Bool, true, false, List, [], ◌∷◌, ◌++◌, length, set, Some, Ok, Err, Result, MatchBool, ◌⊎◌, inl, inr, refl, sym, subst, ◌∙◌, arith, eq-eqb, length-append}
 use Rattle.std.proofs.lemmas.Bool.{ne_eqb}
 use Rattle.std.specs.List.{slice_get}
-use Rattle.std.proofs.lemmas.Option.{slice_get_within}
+use Rattle.std.proofs.lemmas.Option.{same_Some, slice_get_within}
 use Rattle.issuer_base.specs.Stores.{BothTold, LeavesOnly}
 use Rattle.issuer_base.specs.declared.entry.Entry.{Entry}
 use Rattle.issuer_base.specs.declared.outside.store.Store.{Ghosts}
@@ -11,14 +11,15 @@ use Rattle.shard_book.specs.declared.shard.Shard.{Shard}
 use Rattle.shard_book.specs.declared.taking.TakeFault.{TakeFault}
 use Rattle.shard_book.specs.declared.taking.TakeFault.TheVariants.{NotLegal, StoreFault as StoreFailed}
 use Rattle.shard_book.specs.Grounds.{IsImageOf, grounds_of}
-use Rattle.shard_book.specs.Shards.{IsSettled, disk_in}
+use Rattle.journal_rec.specs.RecordText.{text_of}
+use Rattle.shard_book.specs.Shards.{HasTail, IsSettled, disk_in}
 use Rattle.shard_book.specs.Taking.{IsReplicaOf, LeavesReplicas}
 use Rattle.shard_book.specs.Histories.{GoesOn}
 use Rattle.shard_book.proofs.Histories.{goes-none}
 use Rattle.feed_text.specs.FeedText.{HasHead}
 use Rattle.feed_text.specs.declared.limits.TheConstants.{MOST_FEED_BYTES}
 use Rattle.host_loading.specs.Hosts.{AreShards}
-use Rattle.host_loading.proofs.Places.{read-within, write-same}
+use Rattle.host_loading.proofs.Places.{read-within, read-written, write-same}
 use Rattle.standby_node.specs.declared.line.FeedFault.{FeedFault}
 use Rattle.standby_node.specs.declared.line.FeedFault.TheVariants.{BadFeed, StoreFault}
 use Rattle.standby_node.specs.FeedLines.{IsBadLine, IsFor, IsLegalLine, IsNext}
@@ -144,6 +145,13 @@ module _ {S : Type 0} {G : Ghosts S} (issuer : Setup) (shards : List (Shard S G)
             (raised-other in_doubt number)
             (subst (λ (b : Bool). MatchBool b (IsReplicaOf issuer new history) (IsSettled issuer new history))
             (sym (raised-at (in_doubt number) number)) fails.replica),
+        λ none shard shard_is.
+            let within = slice_get_within shards number old old_is in
+            let its : new ≡ shard = same_Some new shard (sym (read-written shards number new within) ∙ shard_is) in
+            let settled = subst (λ (b : Bool). MatchBool b (IsReplicaOf issuer old history) (IsSettled issuer old history)) none
+            (hold.each number old history old_is history_is) in
+            subst (λ (s : Shard S G). HasTail s history [] ⊎ HasTail s history (text_of fails.entry)) its
+            (fails.in_hand settled.settled),
       ),
       leaves history (goes-none history),
     )

@@ -1,5 +1,5 @@
 -- What a shard does with the text at its next index, by what it takes.
-use Rattle.std.proofs.Common.{◌≡◌, ℕ, List, length, Ok, Err, inr, refl, sym, subst}
+use Rattle.std.proofs.Common.{◌≡◌, ℕ, List, [], length, Ok, Err, inr, refl, sym, subst}
 use Rattle.issuer_base.specs.declared.entry.Entry.{Entry}
 use Rattle.issuer_base.specs.declared.outside.store.Store.{Ghosts}
 use Rattle.card_history.specs.LegalRecords.{IsLegal}
@@ -9,8 +9,8 @@ use Rattle.shard_book.specs.declared.shard.Shard.{Shard}
 use Rattle.shard_book.specs.declared.taking.TakeFault.{TakeFault}
 use Rattle.shard_book.specs.declared.taking.TakeFault.TheVariants.{NotLegal, StoreFault}
 use Rattle.shard_book.specs.Grounds.{grounds_of}
-use Rattle.shard_book.specs.Shards.{number_in}
-use Rattle.shard_book.specs.Taking.{Takes}
+use Rattle.shard_book.specs.Shards.{number_in, HasTail}
+use Rattle.shard_book.specs.Taking.{LeavesTaken, Takes}
 use Rattle.standby_node.specs.OneLine.{IsNextOf, TakesAt}
 
 module _ {S : Type 0} {G : Ghosts S} (issuer : Setup) (old new : Shard S G) (history : List Entry) (place : ℕ) (text : List ℕ)
@@ -25,13 +25,15 @@ module _ {S : Type 0} {G : Ghosts S} (issuer : Setup) (old new : Shard S G) (his
     next-of legal = record { place_is = place_is; legal_line = record { line_is = line_is; legal = legal } }
 
     pub next-failed : (fault : TakeFault) → Takes issuer old history entry (Err fault) new → (fault ≡ NotLegal → new ≡ old)
+        → (HasTail old history [] → LeavesTaken entry history [] (Err fault) new)
         → TakesAt issuer old history place text (Err fault) new
-    next-failed NotLegal takes same = record {
+    next-failed NotLegal takes same tail = record {
       place_is = place_is;
       none = λ other legal. takes (subst (IsLegal (grounds_of issuer) (number_in old) history) (sym (only other legal.line_is)) legal.legal);
       same = same refl;
     }
-    next-failed StoreFault takes same = record { entry = entry; next = next-of takes.0; replica = takes.1 }
+    next-failed StoreFault takes same tail =
+        record { entry = entry; next = next-of takes.0; replica = takes.1; in_hand = tail }
 
     pub next-taken : (at : ℕ) → Takes issuer old history entry (Ok at) new → TakesAt issuer old history place text (Ok tt) new
     next-taken at takes = inr (record { entry = entry; next = next-of takes.0; settled = takes.2 })

@@ -7,12 +7,13 @@ use Rattle.issuer_setup.specs.IssuerSetup.{Setup}
 use Rattle.shard_book.specs.declared.shard.Shard.{Shard}
 use Rattle.shard_book.specs.declared.taking.TakeFault.{TakeFault}
 use Rattle.shard_book.specs.declared.taking.TakeFault.TheVariants.{NotLegal, StoreFault as StoreFailed}
-use Rattle.shard_book.specs.Shards.{number_in, IsSettled}
+use Rattle.journal_rec.specs.RecordText.{text_of}
+use Rattle.shard_book.specs.Shards.{number_in, HasTail, IsSettled}
 use Rattle.shard_book.specs.Taking.{IsReplicaOf}
 use Rattle.standby_node.specs.declared.line.FeedFault.{FeedFault}
 use Rattle.standby_node.specs.declared.line.FeedFault.TheVariants.{BadFeed, StoreFault}
 use Rattle.standby_node.specs.FeedLines.{IsBadLine, IsLegalLine, IsNext, TakesLine}
-use Rattle.standby_node.specs.Standing.{Hold}
+use Rattle.standby_node.specs.Standing.{Hold, IsInHand}
 
 -- whether the store failed
 abbrev pub has_failed : Result (Unit {0}) TakeFault → Bool
@@ -39,12 +40,14 @@ module _ {S : Type 0} {G : Ghosts S} where
     pub next : IsNextOf issuer old history place text entry
     pub settled : IsSettled issuer new (history ++ entry ∷ [])
 
-  -- its store failed at the record, and it is a replica of the history before
+  -- its store failed at the record, and it is a replica of the history before. If nothing was in doubt, then what is now
+  -- is the record
   pub record FailsAt (issuer : Setup) (old : Shard S G) (history : List Entry) (place : ℕ) (text : List ℕ)
       (new : Shard S G) : Type 0 where
     pub entry : Entry
     pub next : IsNextOf issuer old history place text entry
     pub replica : IsReplicaOf issuer new history
+    pub in_hand : HasTail old history [] → HasTail new history [] ⊎ HasTail new history (text_of entry)
 
   -- the text at the shard's next index isn't the line of a record that is legal there, and the shard is unchanged
   pub record IsRefused (issuer : Setup) (old : Shard S G) (history : List Entry) (place : ℕ) (text : List ℕ)
@@ -69,5 +72,6 @@ module _ {S : Type 0} {G : Ghosts S} where
   Does issuer in_doubt histories line number (Err (BadFeed bad)) new after =
       (bad ≡ number) × (after ≡ histories) × IsBadLine issuer histories line × Hold issuer in_doubt new after
   Does issuer in_doubt histories line number (Err (StoreFault shard)) new after =
-      (after ≡ histories) × HasNext issuer histories line shard
+      (after ≡ histories) × (its : HasNext issuer histories line shard)
       × Hold issuer (λ other. in_doubt other || (other == shard)) new after
+      × IsInHand in_doubt shard its.history its.entry new

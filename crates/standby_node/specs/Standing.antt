@@ -1,16 +1,17 @@
 -- What the shards of a standby hold, by the stream that it was fed with, and what a crash may leave of their stores.
-use Rattle.std.specs.Prelude.{◌≡◌, ℕ, Bool, ◌||◌, ◌==◌, false, is_ok, MatchBool, List, length, take, slice_get, Some}
+use Rattle.std.specs.Prelude.{◌≡◌, ◌⊎◌, ℕ, Bool, ◌||◌, ◌==◌, false, is_ok, MatchBool, List, [], length, take, slice_get, Some}
 use Rattle.std.specs.Prelude.{Result, Ok, Err}
 use Rattle.issuer_base.specs.Stores.{BothTold, LeavesOnly}
 use Rattle.issuer_base.specs.declared.entry.Entry.{Entry}
 use Rattle.issuer_base.specs.declared.outside.store.Store.{Ghosts}
 use Rattle.issuer_setup.specs.IssuerSetup.{Setup}
+use Rattle.journal_rec.specs.RecordText.{text_of}
 use Rattle.feed_text.specs.declared.limits.TheConstants.{MOST_FEED_BYTES}
 use Rattle.shard_book.specs.declared.shard.Shard.{Shard}
 use Rattle.shard_book.specs.Calls.{KeepsCall}
 use Rattle.shard_book.specs.Grounds.{grounds_of, IsImageOf}
 use Rattle.shard_book.specs.Histories.{GoesOn}
-use Rattle.shard_book.specs.Shards.{disk_in, IsSettled}
+use Rattle.shard_book.specs.Shards.{disk_in, HasTail, IsSettled}
 use Rattle.shard_book.specs.Taking.{IsReplicaOf}
 use Rattle.host_loading.specs.Hosts.{AreShards}
 use Rattle.standby_node.specs.declared.line.FeedFault.{FeedFault}
@@ -58,6 +59,13 @@ module _ {S : Type 0} {G : Ghosts S} where
     pub unfinished : node.line.items ≡ take MOST_FEED_BYTES taken.rest
     pub counted : node.lines ≡ line_count (length taken.lines)
 
+  -- if nothing was in doubt in the store of this shard, then what is now is this record after its history: the store has
+  -- the history's text, all of it durable, and after it at most a prefix of the record's
+  abbrev pub IsInHand : (ℕ → Bool) → ℕ → List Entry → Entry → List (Shard S G) → Type 0
+  IsInHand in_doubt number history entry new =
+      in_doubt number ≡ false → (shard : Shard S G) → slice_get new number ≡ Some shard
+      → HasTail shard history [] ⊎ HasTail shard history (text_of entry)
+
   -- the store of this shard failed at the next record of the shard, which is in doubt; the shards hold the histories
   -- that the lines before it make
   pub record StopsAtStore (issuer : Setup) (in_doubt : ℕ → Bool) (opening : List (List Entry)) (stream : List ℕ)
@@ -69,6 +77,7 @@ module _ {S : Type 0} {G : Ghosts S} where
     pub stops : StopsAt issuer opening stream number line histories
     pub next : IsNext issuer histories line shard history entry
     pub hold : Hold issuer (λ other. in_doubt other || (other == shard)) new histories
+    pub in_hand : IsInHand in_doubt shard history entry new
 
   -- what the shards hold after a piece, by the stream with it: what the stream makes of the opening histories; what the
   -- lines before its first bad one make; or what those before a record make at which a store failed

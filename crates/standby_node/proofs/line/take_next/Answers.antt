@@ -1,5 +1,5 @@
 -- The text at the shard's next index is read and taken; at another index nothing is.
-use Rattle.std.proofs.Common.{◌∙◌, ap, refl, Err}
+use Rattle.std.proofs.Common.{[], ◌∙◌, ap, refl, Err}
 use Rattle.shard_book.specs.Grounds.{grounds_of}
 use Rattle.shard_book.proofs.ShardSteps.{crash-no_call}
 use Rattle.standby_node.proofs.Taken.{next-failed}
@@ -19,3 +19,4 @@ returns-in-Err-clause-taken g c history replica =
     (c.if-place-places.false ∙ c.places.ensures.places ∙ replica.journal_holds.holds.count_is)
     c.in-Ok.entry ((c.in-Ok.ensures c.in-Ok.entry).0 refl) (λ other line_is. cc ((c.in-Ok.ensures other).1 line_is))
     c.in-Err.fault (c.in-Err.ensures.taken history replica) (λ same. c.in-Err.ensures.kept.unchanged (ap Err same))
+    (c.in-Err.ensures.tail history [])
