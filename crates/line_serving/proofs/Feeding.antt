@@ -12,7 +12,7 @@ use Rattle.issuer_base.specs.Tells.{Tells}
 use Rattle.issuer_base.proofs.ManyCalls.{Tells-whole}
 use Rattle.issuer_setup.specs.IssuerSetup.{Setup}
 use Rattle.line_reader.specs.Lines.{IsLinesAndRest, ended, lines}
-use Rattle.line_reader.specs.Reading.{Reading, HasGivenLines, IsWithinLimits, unread, kept}
+use Rattle.line_reader.specs.Reading.{Reading, HasGivenLines, IsWithinLimits, StaysWithinLimits, unread, kept}
 use Rattle.line_reader.specs.NextLine.{GivesLine, GivesRest, ReachesEnd, StopsAtFault, StopsAtLimit}
 use Rattle.line_reader.proofs.LineLaws.{BeginsWithLines-given, flat_map-ended_push, length-begins}
 use Rattle.line_reader.proofs.WholeLines.{HasGivenLines-unread, HasGivenLines-line, IsLinesAndRest-rest}
@@ -20,16 +20,33 @@ use Rattle.line_reader.proofs.WholeLines.{IsLinesAndRest-end, IsLinesAndRest-fau
 use Rattle.line_reader.proofs.WholeLines.{lines-end_reached, lines-rest_given}
 use Rattle.line_blocks.proofs.InputFronts.{front-read}
 use Rattle.host_loading.specs.Hosts.{AreShards}
+use Rattle.shard_book.specs.declared.shard.Shard.{Shard}
 use Rattle.standby_node.specs.declared.line.FeedFault.{FeedFault}
 use Rattle.standby_node.specs.declared.line.FeedFault.TheVariants.{BadFeed as BadLine, StoreFault as StoreFails}
 use Rattle.standby_node.specs.declared.standby.Standby.{Standby}
-use Rattle.standby_node.specs.Standing.{Feeds, HasTaken, Hold, LeavesBetween, shards_in}
+use Rattle.standby_node.specs.Standing.{Feeds, HasTaken, Hold, IsInHand, LeavesBetween, shards_in}
 use Rattle.standby_node.specs.Streams.{StopsAt, TakesLines}
 use Rattle.standby_node.proofs.Shards.{leaves-same, leaves-then}
-use Rattle.line_serving.specs.Following.{FollowsFeed, TakesFeed, WritesCounts, in_doubt_after, write_failed}
+use Rattle.line_serving.specs.Following.{FollowsFeed, HasInHand, TakesFeed, WritesCounts, in_doubt_after, write_failed}
 use Rattle.line_serving.specs.declared.follower.Followed.{Followed}
 use Rattle.line_serving.specs.declared.follower.Followed.TheVariants.{All, ReadFault, WriteFault, TooLong, BadFeed, StoreFault}
-use Rattle.line_serving.proofs.KeptLines.{kept_text, stops_at_record-read, stops_badly-read, takes-read}
+use Rattle.line_serving.proofs.KeptLines.{kept_text, stops_at_record-read, stops_badly-read, takes-read, within-given}
+
+-- no store failed
+abbrev pub HasNoStore : Followed → Type 0
+HasNoStore (StoreFault shard) = ⊥
+HasNoStore _ = Unit {0}
+
+none_in_hand : {S : Type 0} {G : Ghosts S} (followed : Followed) → HasNoStore followed → (issuer : Setup)
+    (opening : List (List Entry)) (file read : List ℕ) (histories : List (List Entry))
+    (takes : TakesFeed issuer opening file read followed histories) (new : List (Shard S G))
+    → HasInHand issuer opening file read followed histories takes new
+none_in_hand All fails issuer opening file read histories takes new = tt
+none_in_hand ReadFault fails issuer opening file read histories takes new = tt
+none_in_hand WriteFault fails issuer opening file read histories takes new = tt
+none_in_hand (TooLong line) fails issuer opening file read histories takes new = tt
+none_in_hand (BadFeed line) fails issuer opening file read histories takes new = tt
+none_in_hand (StoreFault shard) fails issuer opening file read histories takes new = absurd fails
 
 -- an input at its end has nothing left
 none-left : (now : Option (List ℕ)) → IsAtEnd now → Tells now []
@@ -104,6 +121,7 @@ feeds-more issuer in_doubt opening stream more (StoreFails shard) node after sto
   stops = stops_at-more issuer opening after stream more stops.number stops.line stops.stops;
   next = stops.next;
   hold = stops.hold;
+  in_hand = stops.in_hand;
 }
 
 module _ {S : Type 0} {G : Ghosts S} (issuer : Setup) (first : Standby S G) (was : Option (List ℕ)) where
@@ -168,8 +186,10 @@ module _ {S : Type 0} {G : Ghosts S} (issuer : Setup) (first : Standby S G) (was
             content = parts.content;
             was_read = record { unread = parts.rest; split = refl; tells = parts.left };
             takes =
-                stops_badly-read issuer opening it.0 more.read more.whole in_hand.ahead more.given.begins number it.1.0;
+                stops_badly-read issuer opening it.0 more.read more.whole in_hand.ahead more.given.begins
+                (within-given in_hand more.read more.whole more.given) number it.1.0;
             hold = it.1.1;
+            in_hand = tt;
             leaves = it.2;
           },
         )
@@ -180,6 +200,9 @@ module _ {S : Type 0} {G : Ghosts S} (issuer : Setup) (first : Standby S G) (was
     follows-failed fault shard is fed opening opened =
         let it = feeds-line (Err (StoreFails shard)) (subst (λ (f : FeedFault). LineFed (Err f)) is fed) opening opened in
         let at = it.1 in
+        let its = stops_at_record-read issuer opening it.0 more.read more.whole in_hand.ahead more.given.begins
+        (within-given in_hand more.read more.whole more.given) at.number at.line shard at.history at.entry at.stops
+        at.next in
         let parts = front-read was now more.read more.consumed in (
           it.0,
           record {
@@ -187,10 +210,11 @@ module _ {S : Type 0} {G : Ghosts S} (issuer : Setup) (first : Standby S G) (was
             read = more.read;
             content = parts.content;
             was_read = record { unread = parts.rest; split = refl; tells = parts.left };
-            takes =
-                stops_at_record-read issuer opening it.0 more.read more.whole in_hand.ahead more.given.begins at.number
-                at.line shard at.history at.entry at.stops at.next;
+            takes = its.0;
             hold = at.hold;
+            in_hand =
+                subst (λ (e : Entry). IsInHand none shard its.0.history e (shards_in new)) (sym its.2)
+                (subst (λ (h : List Entry). IsInHand none shard h at.entry (shards_in new)) (sym its.1) at.in_hand);
             leaves = it.2;
           },
         )
@@ -207,8 +231,8 @@ module _ {S : Type 0} {G : Ghosts S} (issuer : Setup) (first : Standby S G) (was
           → ((opening histories : List (List Entry)) (file : List ℕ)
           → TakesLines issuer opening so_far.lines.whole histories
           → TakesFeed issuer opening file (so_far.lines.read ++ given) followed histories)
-          → in_doubt_after followed ≡ none → Follows now node followed
-      follows-part followed takes doubts opening opened =
+          → in_doubt_after followed ≡ none → HasNoStore followed → Follows now node followed
+      follows-part followed takes doubts fails opening opened =
           let it = so_far.fed opening opened in
           let read = so_far.lines.read ++ given in
           let parts = front-read was now read all_read in (
@@ -222,6 +246,7 @@ module _ {S : Type 0} {G : Ghosts S} (issuer : Setup) (first : Standby S G) (was
                   (takes-read issuer opening it.0 so_far.lines.read so_far.lines.whole old.ahead
                   so_far.lines.given.begins it.1.taken);
               hold = subst (λ d. Hold issuer d (shards_in node) it.0) (sym doubts) it.1.hold;
+              in_hand = none_in_hand followed fails issuer opening (read ++ parts.rest) read it.0 _ (shards_in node);
               leaves = it.2;
             },
           )
@@ -255,6 +280,7 @@ module _ {S : Type 0} {G : Ghosts S} (issuer : Setup) (first : Standby S G) (was
                 },
               );
               hold = it.1.hold;
+              in_hand = tt;
               leaves = it.2;
             },
           )
@@ -262,14 +288,22 @@ module _ {S : Type 0} {G : Ghosts S} (issuer : Setup) (first : Standby S G) (was
     -- the input failed
     pub follows-fault : StopsAtFault mid now old new → Follows now node ReadFault
     follows-fault stops =
+        let r = so_far.lines in
         follows-part stops.given stops.consumed ReadFault
         (λ opening histories file taken. record {
-          lines = so_far.lines.whole;
-          rest = old.ahead ++ stops.given;
-          split = IsLinesAndRest-fault mid now old new so_far.lines.read so_far.lines.whole so_far.lines.given stops;
+          lines = r.whole;
+          which = record {
+            rest = old.ahead ++ stops.given;
+            parted = IsLinesAndRest-fault mid now old new r.read r.whole r.given stops;
+            within =
+                subst (λ (n : ℕ). StaysWithinLimits n (length (flat_map ended r.whole)) (old.ahead ++ stops.given))
+                r.given.lines_counted
+                (subst (λ (n : ℕ). StaysWithinLimits old.lines n (old.ahead ++ stops.given)) r.given.bytes_counted
+                stops.within);
+          };
           taken = taken;
         })
-        refl
+        refl tt
 
     -- it goes past a limit
     pub follows-limit : StopsAtLimit mid now old new → (number : ℕ) → number ≡ old.lines + 1
@@ -290,7 +324,7 @@ module _ {S : Type 0} {G : Ghosts S} (issuer : Setup) (first : Standby S G) (was
           };
           taken = taken;
         })
-        refl
+        refl tt
 
     -- its last line is torn
     pub follows-rest : GivesRest mid now old new → Follows now node All
@@ -350,6 +384,7 @@ module _ {S : Type 0} {G : Ghosts S} (issuer : Setup) (opening : List (List Entr
     was_read = follows.was_read;
     takes = follows.takes;
     hold = follows.hold;
+    in_hand = tt;
     leaves = follows.leaves;
   }
 

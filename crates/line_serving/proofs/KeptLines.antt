@@ -10,12 +10,12 @@ use Rattle.issuer_base.specs.declared.limits.TheConstants.{KEPT_BYTES}
 use Rattle.issuer_setup.specs.IssuerSetup.{Setup}
 use Rattle.feed_text.specs.declared.limits.TheConstants.{MOST_FEED_BYTES}
 use Rattle.line_reader.specs.Lines.{BeginsWithLines, IsLinesAndRest, IsUnbroken, ended}
-use Rattle.line_reader.specs.Reading.{kept}
+use Rattle.line_reader.specs.Reading.{HasGivenLines, Reading, kept}
 use Rattle.line_reader.proofs.LineLaws.{IsLinesAndRest-same}
 use Rattle.standby_node.specs.FeedLines.{IsBadLine, IsNext, TakesLine}
 use Rattle.standby_node.specs.Streams.{StopsAt, StopsBadly, TakesLines, TakesStream, line_number}
 use Rattle.standby_node.proofs.Streams.{whole-begins}
-use Rattle.line_serving.specs.Following.{StopsAtRecord}
+use Rattle.line_serving.specs.Following.{AreWithinLimits, StopsAtBadLine, StopsAtRecord}
 
 -- ---- one line
 
@@ -75,6 +75,25 @@ each-first : (some more : List (List ℕ)) → AllByRecursion IsUnbroken (some +
 each-first [] more each = tt
 each-first (line ∷ some) more each = (each.0, each-first some more each.1)
 
+-- the first lines of some within the limits are within them
+within-first : (some more : List (List ℕ)) → AreWithinLimits (some ++ more) → AreWithinLimits some
+within-first some more within =
+    let lines = length-append some more in
+    let bytes = length-append (flat_map ended some) (flat_map ended more) in
+    let text = ap length (flat_map-append ended some more) in
+    record {
+      lines_within = omega (arith, within.lines_within, lines);
+      bytes_within = omega (arith, within.bytes_within, text, bytes);
+    }
+
+-- lines that were given are within the limits
+pub within-given : (reading : Reading) (text : List ℕ) (whole : List (List ℕ)) → HasGivenLines reading text whole
+    → AreWithinLimits whole
+within-given reading text whole given = record {
+  lines_within = omega (arith, given.within.lines_within, given.lines_counted);
+  bytes_within = omega (arith, given.within.bytes_within, given.bytes_counted);
+}
+
 -- the lines whose truncated ones are these and then this one
 record AreKept (lines before : List (List ℕ)) (line : List ℕ) : Type 0 where
   first : List (List ℕ)
@@ -130,7 +149,8 @@ module _ (issuer : Setup) (opening histories : List (List Entry)) (read : List �
 
   -- a line at which it stops is one of the lines, truncated
   stops-read : (number : ℕ) (line : List ℕ) → StopsAt issuer opening (kept_text lines) number line histories
-      → (next : List ℕ) × (line ≡ kept next) × StopsAt issuer opening read number next histories
+      → (next : List ℕ) × (line ≡ kept next) × (at : StopsAt issuer opening read number next histories)
+      × (AreWithinLimits lines → AreWithinLimits (at.before ++ next ∷ []))
   stops-read number line stops =
       let all = whole-begins (stops.before ++ line ∷ []) (map kept lines) stops.ahead [] stops.begins.each
       whole.begins.each tt (sym stops.begins.joined ∙ whole.begins.joined) in
@@ -157,29 +177,39 @@ module _ (issuer : Setup) (opening histories : List (List Entry)) (read : List �
               stops.number_is
               ∙ ap line_number (sym (ap length found.first_are) ∙ length-map found.first kept);
         },
+        λ within. within-first (found.first ++ found.next ∷ []) found.more (subst AreWithinLimits grouped within),
       )
 
-  pub stops_badly-read : (number : ℕ) → StopsBadly issuer opening (kept_text lines) number histories
-      → StopsBadly issuer opening read number histories
-  stops_badly-read number stops =
+  pub stops_badly-read : AreWithinLimits lines → (number : ℕ)
+      → StopsBadly issuer opening (kept_text lines) number histories
+      → StopsAtBadLine issuer opening read number histories
+  stops_badly-read within number stops =
       let it = stops-read number stops.line stops.stops in
       record {
-        line = it.0;
-        stops = it.2;
-        bad = bad-kept issuer histories it.0 (subst (IsBadLine issuer histories) it.1 stops.bad);
+        bad = record {
+          line = it.0;
+          stops = it.2;
+          bad = bad-kept issuer histories it.0 (subst (IsBadLine issuer histories) it.1 stops.bad);
+        };
+        within = it.3 within;
       }
 
-  pub stops_at_record-read : (number : ℕ) (line : List ℕ) (shard : ℕ) (history : List Entry) (entry : Entry)
+  pub stops_at_record-read : AreWithinLimits lines → (number : ℕ) (line : List ℕ) (shard : ℕ) (history : List Entry) (entry : Entry)
       → StopsAt issuer opening (kept_text lines) number line histories
-      → IsNext issuer histories line shard history entry → StopsAtRecord issuer opening read shard histories
-  stops_at_record-read number line shard history entry stops next =
-      let it = stops-read number line stops in
-      record {
-        number = number;
-        line = it.0;
-        history = history;
-        entry = entry;
-        stops = it.2;
-        next = next-kept issuer histories it.0 shard history entry
-            (subst (λ (l : List ℕ). IsNext issuer histories l shard history entry) it.1 next);
-      }
+      → IsNext issuer histories line shard history entry
+      → (its : StopsAtRecord issuer opening read shard histories) × (its.history ≡ history) × (its.entry ≡ entry)
+  stops_at_record-read within number line shard history entry stops next =
+      let it = stops-read number line stops in (
+        record {
+          number = number;
+          line = it.0;
+          history = history;
+          entry = entry;
+          stops = it.2;
+          within = it.3 within;
+          next = next-kept issuer histories it.0 shard history entry
+              (subst (λ (l : List ℕ). IsNext issuer histories l shard history entry) it.1 next);
+        },
+        refl,
+        refl,
+      )

@@ -129,6 +129,20 @@ module _ {S : Type 0} (G : Ghosts S) where
   recounted-at (first ∷ books) (one ∷ stores) (suc n) book store book_is store_is =
       recounted-at books stores n book store book_is store_is
 
+  -- and how many calls reported a fault
+  pub recounted-reported : (books : List ShardBook) (stores : List S) (n : ℕ) (book : ShardBook)
+      → slice_get (recounted_all books stores) n ≡ Some book
+      → (was : ShardBook) × (slice_get books n ≡ Some was) × (book.reported ≡ was.reported)
+  recounted-reported [] stores n book book_is = absurd (let e : None ≡ Some book = book_is in cc)
+  recounted-reported (first ∷ books) [] n book book_is = absurd (let e : None ≡ Some book = book_is in cc)
+  recounted-reported (first ∷ books) (one ∷ stores) zero book book_is = (
+    first,
+    refl,
+    ap (λ (b : ShardBook). b.reported) (sym (same_Some (recounted first (G.faults one)) book book_is)),
+  )
+  recounted-reported (first ∷ books) (one ∷ stores) (suc n) book book_is =
+      recounted-reported books stores n book book_is
+
   -- the journals are kept, with the same histories
   pub keep-again : (issuer : Setup) (prefix : List ℕ) (logs : Logged) (olds stores read : List S) (first last : List ShardBook)
       → KeepJournals issuer prefix logs (journals_seen G olds stores) first last

@@ -1,5 +1,5 @@
 -- What taking a feed makes of a standby's shards and writes, by how it ended.
-use Rattle.std.specs.Prelude.{◌≡◌, ℕ, Bool, ◌==◌, true, false, List, [], length, Option, Result, Ok, Err}
+use Rattle.std.specs.Prelude.{◌≡◌, ℕ, Bool, ◌==◌, true, false, List, [], ◌∷◌, ◌++◌, length, Option, Result, Ok, Err}
 use Rattle.std.specs.List.{enumerate_from, flat_map}
 use Rattle.std.specs.Io.KnownBytes.{Appends}
 use Rattle.issuer_base.specs.declared.entry.Entry.{Entry}
@@ -8,14 +8,15 @@ use Rattle.issuer_base.specs.Sink.{AppendsFront}
 use Rattle.issuer_base.specs.Tells.{Tells}
 use Rattle.answer_text.specs.CountText.{count_text}
 use Rattle.issuer_setup.specs.IssuerSetup.{Setup}
-use Rattle.line_reader.specs.Lines.{lines}
+use Rattle.line_reader.specs.Lines.{ended, lines}
 use Rattle.line_reader.specs.Reading.{IsWithinLimits, unread}
-use Rattle.line_blocks.specs.Answered.{WasRead, AreLinesBefore}
+use Rattle.line_blocks.specs.Answered.{WasRead, AreWholeLines, AreLinesBefore}
+use Rattle.shard_book.specs.declared.shard.Shard.{Shard}
 use Rattle.standby_node.specs.declared.line.FeedFault.{FeedFault}
 use Rattle.standby_node.specs.declared.line.FeedFault.TheVariants.{BadFeed as BadLine, StoreFault as StoreFails}
 use Rattle.standby_node.specs.declared.standby.Standby.{Standby}
 use Rattle.standby_node.specs.FeedLines.{IsNext}
-use Rattle.standby_node.specs.Standing.{Hold, LeavesBetween, shards_in}
+use Rattle.standby_node.specs.Standing.{Hold, IsInHand, LeavesBetween, shards_in}
 use Rattle.standby_node.specs.Streams.{StopsAt, StopsBadly, TakesLines, TakesStream}
 use Rattle.line_serving.specs.declared.follower.Followed.{Followed}
 use Rattle.line_serving.specs.declared.follower.Followed.TheVariants.{All, ReadFault, WriteFault, TooLong, BadFeed, StoreFault}
@@ -35,6 +36,13 @@ pub record TakesFile (issuer : Setup) (opening : List (List Entry)) (file : List
   pub within : IsWithinLimits (length (lines file)) (length file)
   pub taken : TakesStream issuer opening file histories
 
+-- what was read passes no limit, and its whole lines make these histories
+pub record TakesPart (issuer : Setup) (opening : List (List Entry)) (read : List ℕ) (histories : List (List Entry))
+    : Type 0 where
+  pub lines : List (List ℕ)
+  pub which : AreWholeLines read lines
+  pub taken : TakesLines issuer opening lines histories
+
 -- a byte past a limit was read, in the line of this number, and the lines before it make these histories
 pub record TakesBefore (issuer : Setup) (opening : List (List Entry)) (read : List ℕ) (number : ℕ)
     (histories : List (List Entry)) : Type 0 where
@@ -42,7 +50,19 @@ pub record TakesBefore (issuer : Setup) (opening : List (List Entry)) (read : Li
   pub are_before : AreLinesBefore number read before
   pub taken : TakesLines issuer opening before histories
 
--- a line has the next record of this shard, whose store failed at it; the lines before it make these histories
+-- these lines are within the limits
+abbrev pub AreWithinLimits : List (List ℕ) → Type 0
+AreWithinLimits lines = IsWithinLimits (length lines) (length (flat_map ended lines))
+
+-- the line of this number is the first bad one of what was read, and those before it make these histories. With it they
+-- are within the limits
+pub record StopsAtBadLine (issuer : Setup) (opening : List (List Entry)) (read : List ℕ) (number : ℕ)
+    (histories : List (List Entry)) : Type 0 where
+  pub bad : StopsBadly issuer opening read number histories
+  pub within : AreWithinLimits (bad.stops.before ++ bad.line ∷ [])
+
+-- a line has the next record of this shard, whose store failed at it; the lines before it make these histories. With it
+-- they are within the limits
 pub record StopsAtRecord (issuer : Setup) (opening : List (List Entry)) (read : List ℕ) (shard : ℕ)
     (histories : List (List Entry)) : Type 0 where
   pub number : ℕ
@@ -50,6 +70,7 @@ pub record StopsAtRecord (issuer : Setup) (opening : List (List Entry)) (read : 
   pub history : List Entry
   pub entry : Entry
   pub stops : StopsAt issuer opening read number line histories
+  pub within : AreWithinLimits (stops.before ++ line ∷ [])
   pub next : IsNext issuer histories line shard history entry
 
 -- what the feed makes of the opening histories, by how taking it ended: all of it was read; or a part was, and its
@@ -57,15 +78,28 @@ pub record StopsAtRecord (issuer : Setup) (opening : List (List Entry)) (read : 
 abbrev pub TakesFeed : Setup → List (List Entry) → List ℕ → List ℕ → Followed → List (List Entry) → Type 0
 TakesFeed issuer opening file read All histories = (read ≡ file) × TakesFile issuer opening file histories
 TakesFeed issuer opening file read WriteFault histories = (read ≡ file) × TakesFile issuer opening file histories
-TakesFeed issuer opening file read ReadFault histories = TakesStream issuer opening read histories
+TakesFeed issuer opening file read ReadFault histories = TakesPart issuer opening read histories
 TakesFeed issuer opening file read (TooLong number) histories = TakesBefore issuer opening read number histories
-TakesFeed issuer opening file read (BadFeed number) histories = StopsBadly issuer opening read number histories
+TakesFeed issuer opening file read (BadFeed number) histories = StopsAtBadLine issuer opening read number histories
 TakesFeed issuer opening file read (StoreFault shard) histories = StopsAtRecord issuer opening read shard histories
 
 -- whether the next record of this shard is in doubt: its store failed at it
 abbrev pub in_doubt_after : Followed → ℕ → Bool
 in_doubt_after (StoreFault shard) number = number == shard
 in_doubt_after _ number = false
+
+-- what is in doubt of a shard whose store failed is the record at which it did: the store has the text of the shard's
+-- history, all of it durable, and after it at most a prefix of that record's
+abbrev pub HasInHand : {S : Type 0} {G : Ghosts S} (issuer : Setup) (opening : List (List Entry)) (file read : List ℕ)
+    (followed : Followed) (histories : List (List Entry)) → TakesFeed issuer opening file read followed histories
+    → List (Shard S G) → Type 0
+HasInHand issuer opening file read All histories takes new = Unit {0}
+HasInHand issuer opening file read WriteFault histories takes new = Unit {0}
+HasInHand issuer opening file read ReadFault histories takes new = Unit {0}
+HasInHand issuer opening file read (TooLong number) histories takes new = Unit {0}
+HasInHand issuer opening file read (BadFeed number) histories takes new = Unit {0}
+HasInHand issuer opening file read (StoreFault shard) histories takes new =
+    IsInHand (λ number. false) shard takes.history takes.entry new
 
 -- a feed was read and taken: what of it, the histories that the shards hold now, and what a crash meanwhile may leave
 pub record FollowsFeed {S : Type 0} {G : Ghosts S} (issuer : Setup) (opening : List (List Entry))
@@ -77,6 +111,7 @@ pub record FollowsFeed {S : Type 0} {G : Ghosts S} (issuer : Setup) (opening : L
   pub was_read : WasRead file read now
   pub takes : TakesFeed issuer opening file read followed histories
   pub hold : Hold issuer (in_doubt_after followed) (shards_in new) histories
+  pub in_hand : HasInHand issuer opening file read followed histories takes (shards_in new)
   pub leaves : LeavesBetween issuer opening histories (shards_in old) (shards_in new)
 
 -- the fault of the standby, where there was one
