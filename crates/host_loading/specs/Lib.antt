@@ -4,4 +4,3 @@ pub mod Hosts
 pub mod StoreRoom
 pub mod Loading
 pub mod Slots
-pub mod EmptyLists

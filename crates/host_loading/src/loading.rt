@@ -3,7 +3,6 @@ ghost use Rattle.std.specs.Prelude.{◌≡◌, ◌+◌, ◌≤◌, [], ◌∷◌
 ghost use Rattle.shard_book.specs.Loading.{is_store_failure};
 ghost use Rattle.shard_book.specs.Shards.{store_in};
 ghost use Rattle.host_loading.specs.Loading.{AreLoaded, AreOnlyRead, ComeBack};
-ghost use Rattle.host_loading.specs.EmptyLists.{AreEmptyFor};
 ghost use Rattle.host_loading.specs.StoreRoom.{StoresHaveRoom};
 
 use issuer_base::{NoMemory, Store};
@@ -34,7 +33,8 @@ pub struct Lists<S: Store> {
 
 /// Allocates a host's lists for so many shards. Both lists are empty. If memory runs out, nothing stays allocated.
 pub fn take_lists<S: Store>(alloc: Global, count: usize) -> Result<Lists<S>, NoMemory>
-    ensures { IfOk result (λ lists. AreEmptyFor count lists) }
+    ensures shards { IfOk result (λ lists. (lists.shards.items ≡ []) × (count ≤ vec_capacity lists.shards)) }
+    ensures back { IfOk result (λ lists. (lists.back.items ≡ []) × (count ≤ vec_capacity lists.back)) }
 {
     let back = Vec::with_capacity(alloc, count)?;
     let Ok(shards) = Vec::with_capacity(alloc, count) else {
@@ -56,7 +56,8 @@ pub fn load_all<S: Store>(
     lists: Lists<S>,
 ) -> Result<Lists<S>, HostBack<S>>
     requires count { (length olds.old.items ≡ issuer.now.shards) × (length stores.items ≡ issuer.now.shards) }
-    requires lists { AreEmptyFor (length stores.items) lists }
+    requires shards { (lists.shards.items ≡ []) × (length stores.items ≤ vec_capacity lists.shards) }
+    requires back { (lists.back.items ≡ []) × (length stores.items ≤ vec_capacity lists.back) }
     ensures loaded { IfOk result (λ loaded.
         AreLoaded issuer.now olds.old.items olds.new.items stores.items loaded.shards.items) }
     ensures olds { AreOnlyRead S.size S.bytes S.disk S.room olds.old.items olds.new.items }

@@ -1,8 +1,7 @@
 //! Loads the shards of a host at once, in several threads.
-ghost use Rattle.std.specs.Prelude.{◌≡◌, ◌<◌, ◌≤◌, [], length, map, vec_len, vec_capacity, All, None, Some, IfOk, IfErr, MatchOption, false};
+ghost use Rattle.std.specs.Prelude.{◌≡◌, ℕ, ◌<◌, ◌≤◌, [], length, map, vec_len, vec_capacity, All, None, Some, IfOk, IfErr, MatchOption, false};
 ghost use Rattle.issuer_base.specs.declared.limits.TheConstants.{MAX_SHARDS};
 ghost use Rattle.shard_book.specs.Loading.{is_store_failure};
-ghost use Rattle.host_loading.specs.EmptyLists.{AreEmptyFor};
 ghost use Rattle.host_loading.specs.Loading.{AreLoaded, AreOnlyRead, ComeBackTogether};
 ghost use Rattle.host_loading.specs.StoreRoom.{StoresHaveRoom};
 ghost use Rattle.host_loading.specs.Slots.{HasEnded, HasTried, HaveTried, IsFirstFailed, IsWaiting, fault_in, left_in, loaded_as, store_of};
@@ -81,7 +80,8 @@ pub fn load_together<S: Store + Send, R: Threads + Sync>(
     callers: u8,
 ) -> Result<Lists<S>, HostBack<S>>
     requires count { (length olds.old.items ≡ issuer.now.shards) × (length stores.items ≡ issuer.now.shards) }
-    requires lists { AreEmptyFor (length stores.items) lists }
+    requires shards { (lists.shards.items ≡ []) × (length stores.items ≤ vec_capacity lists.shards) }
+    requires back { (lists.back.items ≡ []) × (length stores.items ≤ vec_capacity lists.back) }
     requires callers { 0 < callers }
     ensures loaded { IfOk result (λ loaded.
         AreLoaded issuer.now olds.old.items olds.new.items stores.items loaded.shards.items) }
