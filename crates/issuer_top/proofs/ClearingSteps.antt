@@ -36,11 +36,11 @@ use Rattle.issuer_top.specs.Opened.{OpenedConfigOnly, OpenedBothInputs}
 use Rattle.issuer_top.specs.Stopping.{EndsServing}
 use Rattle.command_line.specs.Command.{IsClear}
 use Rattle.issuer_top.specs.PinChanges.{SaysIssuer}
-use Rattle.issuer_top.specs.ReadAgain.{StayLoaded, StopsReading, stop_of_reading}
+use Rattle.issuer_top.specs.ReadAgain.{StayLoaded, FailOnlyAt, StopsReading, failed_at, none_fails, stop_of_reading}
 use Rattle.issuer_top.specs.Clearing.{IsClearing, LoadsToClear, FilesBooks, ChecksLines}
 use Rattle.issuer_top.specs.Endings.{HasIssuer, EndsBy}
 use Rattle.issuer_top.proofs.EndingSteps.{told-given, ends_by_stop, ends_at_once, StopsAtOnce}
-use Rattle.issuer_top.proofs.ReadingSteps.{are-read, stops-reading}
+use Rattle.issuer_top.proofs.ReadingSteps.{are-read, fail-read, fail-same, fails-at, stops-reading}
 
 -- ---- journals that were loaded, and filed
 
@@ -65,6 +65,17 @@ module _ {S : Type 0} (G : Ghosts S) (issuer : Setup) (prefix : List ℕ) (logs 
       (λ before after before_at after_at.
       subst (λ b. CountsFaults (G.faults before) (G.faults after) (b && is_store_fault {X = Unit {0}} (Err fault)))
       (eq-eqb shard shard refl) (count shard before after before_at after_at))
+
+  -- no store but that one failed
+  pub fail-filing : (shard : ℕ) (fault : FilingFault)
+      → CountAt G.faults stores read (fails_at {X = Unit {0}} (Err (record { fault = fault; shard = shard })))
+      → FailOnlyAt (map (store_seen G) read) (failed_at fault shard)
+  fail-filing shard fault count =
+      fail-same (map (store_seen G) read)
+      (fails_at {X = Unit {0}} (Err (record { fault = fault; shard = shard }))) (failed_at fault shard)
+      (fails-at fault shard)
+      (fail-read G issuer prefix logs olds stores loaded read only
+      (fails_at {X = Unit {0}} (Err (record { fault = fault; shard = shard }))) count)
 
 -- ---- the ways that a clearing check ends
 
@@ -102,52 +113,62 @@ module _ (seen : Seen) (clearing journal : List ℕ) (issuer : Setup) (set_up : 
   loads = record { clearing = clearing; journal = journal; issuer = issuer; set_up = set_up; stay = stay }
 
   -- no memory was left to check lines with
-  pub ends_unchecked : (ending : Ending) → OpenedConfigOnly seen → StopsAtOnce seen NoMemory ending → EndsBy seen ending
+  pub ends_unchecked : FailOnlyAt seen.journals.stores none_fails → (ending : Ending) → OpenedConfigOnly seen
+      → StopsAtOnce seen NoMemory ending → EndsBy seen ending
   unfolding loads
-  ends_unchecked ending opened stopping =
+  ends_unchecked counted ending opened stopping =
       ends_at_once seen NoMemory ending
-      (inr (inr (inr (inr (inl (record { loaded = loads; opened = opened; told = refl })))))) stopping
+      (inr (inr (inr (inr (inl (record {
+        loaded = loads;
+        stood = counted;
+        opened = opened;
+        told = refl;
+      })))))) stopping
 
   -- the journals couldn't be filed
-  pub ends_unfiled : (fault : FilingFault) (shard : ℕ) (ending : Ending) → OpenedConfigOnly seen
+  pub ends_unfiled : (fault : FilingFault) (shard : ℕ) → FailOnlyAt seen.journals.stores (failed_at fault shard)
+      → (ending : Ending) → OpenedConfigOnly seen
       → StopsReading seen.journals.stores shard fault → StopsAtOnce seen (stop_of_reading fault shard) ending
       → EndsBy seen ending
   unfolding loads
-  ends_unfiled StoreFails shard ending opened cause stopping =
+  ends_unfiled StoreFails shard counted ending opened cause stopping =
       ends_at_once seen (StoreFault shard) ending
       (inr (inl (record {
         loaded = loads;
         opened = opened;
         fault = StoreFails;
         shard = shard;
+        counted = counted;
         cause = cause;
         stop_is = refl;
         last = refl;
       }))) stopping
-  ends_unfiled (BadLine line) shard ending opened cause stopping =
+  ends_unfiled (BadLine line) shard counted ending opened cause stopping =
       ends_at_once seen (BadJournal shard line) ending
       (inr (inl (record {
         loaded = loads;
         opened = opened;
         fault = BadLine line;
         shard = shard;
+        counted = counted;
         cause = cause;
         stop_is = refl;
         last = refl;
       }))) stopping
-  ends_unfiled NoRoom shard ending opened cause stopping = ends_unchecked ending opened stopping
+  ends_unfiled NoRoom shard counted ending opened cause stopping = ends_unchecked counted ending opened stopping
 
   -- the desk gave no clearing file
-  pub ends_no_clearing : (T : Type 0) (other : Option FailedCall) (between : ℕ) (fault : DeskFault) (ending : Ending)
+  pub ends_no_clearing : FailOnlyAt seen.journals.stores none_fails → (T : Type 0) (other : Option FailedCall) (between : ℕ) (fault : DeskFault) (ending : Ending)
       → is_some seen.config ≡ true → is_some seen.requests ≡ false
       → between ≡ seen.desk.faults_before → CountsFaults between seen.desk.faults_after (is_fault {T = T} (Err fault))
       → seen.desk.last_fault ≡ last_after Read clearing (is_fault {T = T} (Err fault)) other
       → StopsAtOnce seen (stop_of fault) ending → EndsBy seen ending
   unfolding loads
-  ends_no_clearing T other between Fault ending with_config no_requests stood desk_count last stopping =
+  ends_no_clearing counted T other between Fault ending with_config no_requests stood desk_count last stopping =
       ends_at_once seen ReadFault ending
       (inr (inr (inr (inr (inl (record {
         loaded = loads;
+        stood = counted;
         fails = record {
           config_is = with_config;
           requests_is = no_requests;
@@ -157,14 +178,15 @@ module _ (seen : Seen) (clearing journal : List ℕ) (issuer : Setup) (set_up : 
         told = refl;
       }))))))
       stopping
-  ends_no_clearing T other between NoDeskRoom ending with_config no_requests stood desk_count last stopping =
-      ends_unchecked ending (record {
+  ends_no_clearing counted T other between NoDeskRoom ending with_config no_requests stood desk_count last stopping =
+      ends_unchecked counted ending (record {
         config_is = with_config;
         requests_is = no_requests;
         desk_stood = desk_count.counted ∙ stood;
       }) stopping
 
-  module _ (input : SeenInput) (left : Option (List ℕ)) (opened : OpenedBothInputs seen)
+  module _ (counted : FailOnlyAt seen.journals.stores none_fails) (input : SeenInput) (left : Option (List ℕ))
+      (opened : OpenedBothInputs seen)
       (input_is : seen.requests ≡ Some input) (given : GivesInput (seen.desk.tells clearing) left)
       (records : List Filed) (filed : FilesBooks issuer seen.journals stay.first records) where
     -- what was checked are lines of the file that the desk holds
@@ -175,6 +197,7 @@ module _ (seen : Seen) (clearing journal : List ℕ) (issuer : Setup) (set_up : 
     unfolding loads
     lines-checked text_of Which Written served = record {
       loaded = loads;
+      stood = counted;
       opened = opened;
       records = records;
       filed = filed;

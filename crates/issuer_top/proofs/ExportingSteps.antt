@@ -1,5 +1,5 @@
 -- How a run ends that exports journals.
-use Rattle.std.proofs.Common.{◌≡◌, ℕ, ◌&&◌, ◌⊎◌, false, List, [], ◌∷◌, ◌++◌, length, drop, map, Option, None, Some}
+use Rattle.std.proofs.Common.{◌≡◌, ℕ, ◌&&◌, ◌⊎◌, ◌==◌, false, List, [], ◌∷◌, ◌++◌, length, drop, map, Option, None, Some}
 use Rattle.std.proofs.Common.{Ok, Err, IfSome, All, inl, inr, ⊎_elim, refl, sym, ap, ap₂, subst, ◌∙◌, arith, append_assoc}
 use Rattle.std.specs.Prelude.{Result, IfErr}
 use Rattle.std.proofs.lemmas.Bool.{eq-eqb}
@@ -20,25 +20,27 @@ use Rattle.host_loading.specs.Books.{ShardBook}
 use Rattle.host_loading.specs.Loading.{AreOnlyRead}
 use Rattle.journal_reader.specs.declared.reader.RecordFault.{RecordFault}
 use Rattle.journal_reader.specs.declared.reader.RecordFault.TheVariants.{StoreFault as ReadingFails, BadLine as ReadsBad}
-use Rattle.journal_reader.specs.Reading.{has_failed}
-use Rattle.journal_reader.specs.Filing.{CountAt, fault_of, is_store_fault}
+use Rattle.journal_reader.specs.Reading.{StopsAfter, has_failed}
+use Rattle.journal_reader.specs.Filing.{CountAt, HasFirstRecords, fault_of, is_store_fault}
 use Rattle.journal_reader.specs.declared.export.ExportFault.{ExportFault}
 use Rattle.journal_reader.specs.declared.export.ExportFault.TheVariants.{WriteFault as SinkFault, Unread}
-use Rattle.journal_reader.specs.Exporting.{Exports, ExportsAll, ExportsFirst, HasFirstRecords, IsSparedIn, fails_at}
+use Rattle.journal_reader.specs.Exporting.{Exports, ExportsAll, ExportsFirst, IsSparedIn, fails_at}
 use Rattle.journal_reader.specs.Exporting.{write_failed}
 use Rattle.line_serving.specs.Loaded.{AreLoadedFrom}
 use Rattle.desk_host.specs.SeenStores.{Logged, SeenJournals, journals_seen, store_seen}
+use Rattle.desk_host.proofs.SeenSteps.{at-place}
 use Rattle.command_line.specs.Command.{IsExport}
 use Rattle.issuer_top.specs.declared.ending.Ending.{Ending}
 use Rattle.issuer_top.specs.Seen.{Seen}
 use Rattle.issuer_top.specs.Opened.{OpenedConfigOnly}
 use Rattle.issuer_top.specs.PinChanges.{SaysIssuer}
-use Rattle.issuer_top.specs.ReadAgain.{StayLoaded, StopsReading}
-use Rattle.issuer_top.specs.Exporting.{IsExporting, LoadsToExport, IsFeed, IsFeedUpTo, AreFirst}
+use Rattle.issuer_top.specs.ReadAgain.{StayLoaded, FailOnlyAt, StopsReading, failed_at, none_fails}
+use Rattle.issuer_top.specs.Exporting.{IsExporting, LoadsToExport, IsFeed, IsFeedUpTo, IsLineAfter, AreFirst}
 use Rattle.issuer_top.specs.Stopping.{EndsExporting}
 use Rattle.issuer_top.specs.Endings.{HasIssuer, EndsBy}
 use Rattle.issuer_top.proofs.EndingSteps.{ends_by_stop, ends_at_once, StopsAtOnce}
-use Rattle.issuer_top.proofs.ReadingSteps.{IsAt, are-read, holds-text, reads-as, reads-whole, stops-reading, stores-count}
+use Rattle.issuer_top.proofs.ReadingSteps.{IsAt, are-read, fail-read, fail-same, holds-text, reads-as, reads-whole, recorded-at}
+use Rattle.issuer_top.proofs.ReadingSteps.{stops-reading, stores-count}
 
 -- ---- what was read
 
@@ -64,13 +66,17 @@ first-texts (entry ∷ first) (other ∷ whole) ahead records others same =
 -- the feed of these books was written; or a prefix of it, or of that of the first records; or that of the records before
 -- one that couldn't be read
 abbrev pub FeedsBy : SeenJournals → List ShardBook → Option (List ℕ) → Option (List ℕ) → Result (Unit {0}) ExportFault → Type 0
-FeedsBy journals books before now (Ok done) = (feed : List ℕ) × IsFeed journals books feed × Appends before now feed
+FeedsBy journals books before now (Ok done) =
+    (feed : List ℕ) × IsFeed journals books feed × Appends before now feed × FailOnlyAt journals.stores none_fails
 FeedsBy journals books before now (Err SinkFault) =
-    ((feed : List ℕ) × IsFeed journals books feed × AppendsFront before now feed)
-    ⊎ ((shard : ℕ) × (feed : List ℕ) × IsFeedUpTo journals books shard feed × AppendsFront before now feed)
+    ((feed : List ℕ) × IsFeed journals books feed × AppendsFront before now feed
+    × FailOnlyAt journals.stores none_fails)
+    ⊎ ((shard : ℕ) × (feed : List ℕ) × IsFeedUpTo journals books shard feed × AppendsFront before now feed
+    × (FailOnlyAt journals.stores none_fails ⊎ FailOnlyAt journals.stores (λ number. shard == number)))
 FeedsBy journals books before now (Err (Unread fault shard)) =
-    (feed : List ℕ) × IsFeedUpTo journals books shard feed × Appends before now feed
-    × StopsReading journals.stores shard (fault_of fault)
+    (feed : List ℕ) × (its : IsFeedUpTo journals books shard feed) × Appends before now feed
+    × StopsReading journals.stores shard (fault_of fault) × IsLineAfter its.first fault
+    × FailOnlyAt journals.stores (failed_at (fault_of fault) shard)
 
 module _ {S : Type 0} (G : Ghosts S) (issuer : Setup) (prefix : List ℕ) (logs : Logged) (olds stores : List S)
     (loaded : AreLoadedFrom issuer prefix logs (journals_seen G olds stores)) (read : List S)
@@ -102,7 +108,8 @@ module _ {S : Type 0} (G : Ghosts S) (issuer : Setup) (prefix : List ℕ) (logs 
   )
 
   exported-first : (shard : ℕ) (Written : List ℕ → Type 0) (some : ExportsFirst G.bytes stores shard Written)
-      → (feed : List ℕ) × IsFeedUpTo (journals_seen G olds read) loaded.books shard feed × Written feed
+      → (feed : List ℕ) × (its : IsFeedUpTo (journals_seen G olds read) loaded.books shard feed) × Written feed
+      × (its.first ≡ some.history)
   exported-first shard Written some =
       let within = some.have.within in
       let books = loaded.kept.first_are in
@@ -122,7 +129,15 @@ module _ {S : Type 0} (G : Ghosts S) (issuer : Setup) (prefix : List ℕ) (logs 
           feed_is = refl;
         },
         some.written,
+        refl,
       )
+
+  -- a bad line comes after the records that the reader gave
+  line-after : (bytes : Option (List ℕ)) (history : List Entry) (fault : RecordFault) → StopsAfter bytes history fault
+      → IsLineAfter history fault
+  line-after bytes history ReadingFails stops = tt
+  line-after bytes history (ReadsBad line) stops =
+      ⊎_elim (λ next. inl next.0) (λ first. inr (first.0, first.1.0)) stops
 
   -- the journal of this shard couldn't be read on
   stops-export : (fault : RecordFault) (shard : ℕ) → IsSparedIn G.bytes issuer stores (Unread fault shard)
@@ -140,20 +155,54 @@ module _ {S : Type 0} (G : Ghosts S) (issuer : Setup) (prefix : List ℕ) (logs 
       failed ReadingFails = refl
       failed (ReadsBad line) = refl
 
+  -- no store failed
+  fail-none : CountAt G.faults stores read (λ number. false) → FailOnlyAt (map (store_seen G) read) none_fails
+  fail-none count = fail-read G issuer prefix logs olds stores loaded read only none_fails count
+
+  -- no other store failed
+  fail-export : (fault : RecordFault) (shard : ℕ) → CountAt G.faults stores read (fails_at (Err (Unread fault shard)))
+      → FailOnlyAt (map (store_seen G) read) (failed_at (fault_of fault) shard)
+  fail-export fault shard count =
+      fail-same (map (store_seen G) read) (fails_at (Err (Unread fault shard))) (failed_at (fault_of fault) shard)
+      (recorded-at fault shard)
+      (fail-read G issuer prefix logs olds stores loaded read only (fails_at (Err (Unread fault shard))) count)
+
   -- so the feed of these books was written, or a prefix of it
   pub feeds-by : (before now : Option (List ℕ)) (exported : Result (Unit {0}) ExportFault)
-      → Exports G.bytes stores before now exported → IfErr exported (IsSparedIn G.bytes issuer stores)
+      → Exports G.bytes stores (CountAt G.faults stores read) before now exported → IfErr exported (IsSparedIn G.bytes issuer stores)
       → (write_failed exported ≡ false → CountAt G.faults stores read (fails_at exported))
       → FeedsBy (journals_seen G olds read) loaded.books before now exported
-  feeds-by before now (Ok done) exports spared counts = exported-all (Appends before now) exports
+  feeds-by before now (Ok done) exports spared counts =
+      let all = exported-all (Appends before now) exports in
+      (all.0, all.1, all.2, fail-none (counts refl))
   feeds-by before now (Err SinkFault) exports spared counts =
-      ⊎_elim (λ all. inl (exported-all (AppendsFront before now) all))
+      ⊎_elim
+      (λ whole.
+      let all = exported-all (AppendsFront before now) whole.0 in
+      inl (all.0, all.1, all.2, fail-none whole.1))
       (λ some.
       let first = exported-first some.0 (AppendsFront before now) some.1 in
-      inr (some.0, first.0, first.1, first.2)) exports
+      inr (
+        some.0,
+        first.0,
+        first.1,
+        first.2,
+        ⊎_elim (λ none. inl (fail-none none))
+            (λ one.
+            inr (fail-read G issuer prefix logs olds stores loaded read only (λ number. some.0 == number) one)) some.2,
+      )) exports
   feeds-by before now (Err (Unread fault shard)) exports spared counts =
-      let first = exported-first shard (Appends before now) exports in
-      (first.0, first.1, first.2, stops-export fault shard spared (counts refl))
+      let first = exported-first shard (Appends before now) exports.first in
+      let within = exports.first.have.within in
+      let store = at-place stores shard within in (
+        first.0,
+        first.1,
+        first.2,
+        stops-export fault shard spared (counts refl),
+        subst (λ (l : List Entry). IsLineAfter l fault) (sym first.3)
+            (line-after (G.bytes store.0) exports.first.history fault (exports.stops store.0 store.1)),
+        fail-export fault shard (counts refl),
+      )
 
 -- ---- the ways that an export ends
 
@@ -183,11 +232,12 @@ module _ (seen : Seen) (journal : List ℕ) (issuer : Setup) (set_up : IsExporti
   loads = record { journal = journal; issuer = issuer; set_up = set_up; stay = stay; opened = opened }
 
   -- no memory was left to export with
-  pub ends_unexported : (ending : Ending) → StopsAtOnce seen NoMemory ending → EndsBy seen ending
+  pub ends_unexported : FailOnlyAt seen.journals.stores none_fails → (ending : Ending)
+      → StopsAtOnce seen NoMemory ending → EndsBy seen ending
   unfolding loads
-  ends_unexported ending stopping =
+  ends_unexported counted ending stopping =
       ends_at_once seen NoMemory ending
-      (inr (inr (inr (inr (inr (inl (record { loaded = loads; told = refl }))))))) stopping
+      (inr (inr (inr (inr (inr (inl (record { loaded = loads; stood = counted; told = refl }))))))) stopping
 
   -- how the run ends, by how the export did
   pub ends_exporting : (exported : Result (Unit {0}) ExportFault) (ending : Ending) (held : Option (List ℕ)) (faults : ℕ)
@@ -198,7 +248,7 @@ module _ (seen : Seen) (journal : List ℕ) (issuer : Setup) (set_up : IsExporti
   ends_exporting (Ok done) ending held faults feeds counts ends =
       subst (EndsBy seen) (sym ends.ending_is) (
         feeds.0,
-        inr (inr (inr (inr (inr (inr (inl (record { loaded = loads; feed = feeds.1 }))))))),
+        inr (inr (inr (inr (inr (inr (inl (record { loaded = loads; stood = feeds.3; feed = feeds.1 }))))))),
         subst (λ (h : Option (List ℕ)). Appends seen.sink.held_before h feeds.0) (sym ends.same) feeds.2,
       )
   ends_exporting (Err SinkFault) ending held faults feeds counts ends =
@@ -207,7 +257,11 @@ module _ (seen : Seen) (journal : List ℕ) (issuer : Setup) (set_up : IsExporti
       (λ whole. record {
         rose = subst (Rose seen.sink.faults_before) (sym ends.stood) counts.counted;
         text = whole.0;
-        due = inr (inr (inr (inr (inr (inr (inr (inr (inr (inl (record { loaded = loads; feed = whole.1 }))))))))));
+        due = inr (inr (inr (inr (inr (inr (inr (inr (inr (inl (record {
+          loaded = loads;
+          stood = whole.3;
+          feed = whole.1;
+        }))))))))));
         front =
             subst (λ (h : Option (List ℕ)). AppendsFront seen.sink.held_before h whole.0) (sym ends.same) whole.2;
       })
@@ -217,6 +271,7 @@ module _ (seen : Seen) (journal : List ℕ) (issuer : Setup) (set_up : IsExporti
         due = inr (inr (inr (inr (inr (inr (inr (inr (inl (record {
           loaded = loads;
           shard = begun.0;
+          counted = begun.4;
           feed = begun.2;
         })))))))));
         front =
@@ -228,9 +283,11 @@ module _ (seen : Seen) (journal : List ℕ) (issuer : Setup) (set_up : IsExporti
       (inr (inr (inl (record {
         loaded = loads;
         shard = shard;
+        fault = ReadingFails;
+        counted = feeds.5;
         written = feeds.0;
         feed = feeds.1;
-        fault = ReadingFails;
+        line_is = feeds.4;
         cause = feeds.3;
         stop_is = refl;
         last = refl;
@@ -241,9 +298,11 @@ module _ (seen : Seen) (journal : List ℕ) (issuer : Setup) (set_up : IsExporti
       (inr (inr (record {
         loaded = loads;
         shard = shard;
+        fault = ReadsBad line;
+        counted = feeds.5;
         written = feeds.0;
         feed = feeds.1;
-        fault = ReadsBad line;
+        line_is = feeds.4;
         cause = feeds.3;
         stop_is = refl;
         last = refl;

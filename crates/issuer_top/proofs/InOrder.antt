@@ -496,7 +496,8 @@ module _ (seen : Seen) (order : StandsInOrder seen) where
       let were = subst (λ (j : List ℕ). WereJournals order.in_order.issuer j seen.desk.logs s.first)
       (sym same.journal_is)
       (subst (λ (i : Setup). WereJournals i s.journal seen.desk.logs s.first) issuer (were-journals seen s)) in
-      let stops = subst (λ (i : Setup). StopsBadly i (histories_of s.first) s.read number s.histories) issuer s.takes in
+      let stops = subst (λ (i : Setup). StopsBadly i (histories_of s.first) s.read number s.histories) issuer
+      s.takes.bad in
       let whole = stops-more order.in_order.issuer (histories_of s.first) s.histories s.read s.was_read.unread number
       stops in
       order.none_bad s.first number s.histories were

@@ -7,7 +7,10 @@ pub mod InOrder
 pub mod ReadingSteps
 pub mod ClearingSteps
 pub mod ExportingSteps
+pub mod ReplicaLaws
 pub mod StandingSteps
+pub mod StandbyRestarts
 pub mod FillingSteps
+pub mod PinLines
 pub mod PinSteps
 pub mod OpeningSteps

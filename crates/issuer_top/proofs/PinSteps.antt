@@ -28,6 +28,7 @@ use Rattle.issuer_top.specs.Standing.{LoadsToStandBy, StandsBy}
 use Rattle.issuer_top.specs.Endings.{IsNoMemory, EndsBy}
 use Rattle.issuer_top.proofs.OverJournals.{over-no_pin}
 use Rattle.issuer_top.proofs.EndingSteps.{ends_at_once, ends_by_text}
+use Rattle.issuer_top.proofs.PinLines.{reads-change}
 
 -- ---- the ways that a change of a PIN ends
 
@@ -49,7 +50,13 @@ module _ (seen : Seen) (order : PinOrder) (issuer : Setup) (ordered : IsOrdered 
       changes
   ends_as (Some smc) is changes =
       let done : IsChanged seen (change_text order smc) =
-      record { order = order; issuer = issuer; ordered = ordered; text_is = ap (change_by order) is } in
+      record {
+        order = order;
+        issuer = issuer;
+        ordered = ordered;
+        text_is = ap (change_by order) is;
+        read = reads-change issuer order seen.words ordered.pin (change_text order smc) (ap (change_by order) is);
+      } in
       ends_by_text seen ending (change_text order smc) (inr (inr (inr (inr (inl done)))))
       (inr (inr (inr (inr (inr (inl done)))))) changes
 

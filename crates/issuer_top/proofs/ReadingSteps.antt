@@ -1,6 +1,7 @@
 -- Journals that were loaded, and read again from their stores.
-use Rattle.std.proofs.Common.{◌≡◌, ℕ, ◌<◌, true, false, List, [], ◌++◌, length, take, map, Option, None, Some}
+use Rattle.std.proofs.Common.{◌≡◌, ℕ, ◌<◌, ◌==◌, Bool, ◌&&◌, true, false, List, [], ◌++◌, length, take, map, Option, None, Some}
 use Rattle.std.proofs.Common.{Err, IfSome, refl, sym, ap, subst, ◌∙◌, arith, append-nil}
+use Rattle.std.specs.Prelude.{MatchBool}
 use Rattle.std.specs.List.{slice_get}
 use Rattle.std.specs.Option.{option_map}
 use Rattle.std.proofs.lemmas.Bool.{true≢false}
@@ -18,29 +19,57 @@ use Rattle.shard_book.specs.declared.replay.Version.TheVariants.{Two}
 use Rattle.shard_book.proofs.Exactly.{same-text}
 use Rattle.host_loading.specs.Books.{ShardBook}
 use Rattle.host_loading.specs.Loading.{AreOnlyRead}
-use Rattle.journal_reader.specs.Filing.{HasRecords, HaveRecords, IsSpared, is_bad, is_store_fault}
+use Rattle.journal_reader.specs.Reading.{has_failed}
+use Rattle.journal_reader.specs.declared.reader.RecordFault.{RecordFault}
+use Rattle.journal_reader.specs.declared.reader.RecordFault.TheVariants.{StoreFault as ReadingFails, BadLine as ReadsBad}
+use Rattle.journal_reader.specs.Filing.{CountAt, HasRecords, HaveRecords, IsSpared, fault_of, is_bad, is_store_fault}
 use Rattle.journal_reader.specs.declared.filing.FilingFault.{FilingFault}
 use Rattle.journal_reader.specs.declared.filing.FilingFault.TheVariants.{StoreFault as StoreFails, BadLine}
 use Rattle.journal_reader.specs.declared.filing.FilingFault.TheVariants.{NoMemory as NoRoom}
 use Rattle.line_serving.specs.Loaded.{AreLoadedFrom}
-use Rattle.line_serving.proofs.ReadAgain.{keep-again, recounted_all, recounted-histories}
+use Rattle.line_serving.proofs.ReadAgain.{keep-again, recounted_all, recounted-histories, recounted-reported}
 use Rattle.desk_host.specs.SeenStores.{Logged, SeenStore, journals_seen, store_seen}
 use Rattle.desk_host.specs.Journals.{old_name, journal_name}
 use Rattle.desk_host.specs.Kept.{KeepsJournal}
 use Rattle.desk_host.proofs.SeenSteps.{at-place, mapped, seen-store}
-use Rattle.issuer_top.specs.ReadAgain.{StayLoaded, AreRead, ReadsAs, StopsReading}
+use Rattle.issuer_top.specs.ReadAgain.{StayLoaded, AreRead, FailOnlyAt, ReadsAs, StopsReading, failed_at, none_fails}
+
+-- a count that was none
+counted-from : (failed : Bool) (before after : ℕ) → before ≡ 0
+    → MatchBool failed (Rose before after) (after ≡ before) → MatchBool failed (0 < after) (after ≡ 0)
+counted-from true before after none rose = Rose-from_none after (subst (λ n. Rose n after) none rose)
+counted-from false before after none same = same ∙ none
+
+-- stores that failed where others are said to
+pub fail-same : (stores : List SeenStore) (failed others : ℕ → Bool) → ((shard : ℕ) → failed shard ≡ others shard)
+    → FailOnlyAt stores failed → FailOnlyAt stores others
+fail-same stores failed others same fail = record {
+  each = λ shard store at.
+      subst (λ b. MatchBool b (0 < store.faults) (store.faults ≡ 0)) (same shard) (fail.each shard store at);
+}
+
+and_true : (b : Bool) → (b && true) ≡ b
+and_true true = refl
+and_true false = refl
+
+and_false : (b : Bool) → (b && false) ≡ false
+and_false true = refl
+and_false false = refl
+
+-- whose store failed
+pub recorded-at : (fault : RecordFault) (shard number : ℕ)
+    → ((shard == number) && has_failed {X = Unit {0}} (Err fault)) ≡ failed_at (fault_of fault) shard number
+recorded-at ReadingFails shard number = and_true (shard == number)
+recorded-at (ReadsBad line) shard number = and_false (shard == number)
+
+pub fails-at : (fault : FilingFault) (shard number : ℕ)
+    → ((shard == number) && is_store_fault {X = Unit {0}} (Err fault)) ≡ failed_at fault shard number
+fails-at StoreFails shard number = and_true (shard == number)
+fails-at (BadLine line) shard number = and_false (shard == number)
+fails-at NoRoom shard number = and_false (shard == number)
 
 module _ {S : Type 0} (G : Ghosts S) (issuer : Setup) (prefix : List ℕ) (logs : Logged) (olds stores : List S)
     (loaded : AreLoadedFrom issuer prefix logs (journals_seen G olds stores)) where
-  pub stay-loaded : StayLoaded issuer prefix logs (journals_seen G olds stores)
-  stay-loaded = record {
-    first = loaded.books;
-    last = loaded.books;
-    kept = loaded.kept;
-    same = refl;
-    lawful = loaded.lawful;
-  }
-
   pub stores-count : length stores ≡ issuer.shards
   stores-count = sym (mapped (store_seen G) stores) ∙ loaded.kept.stores_are
 
@@ -66,6 +95,42 @@ module _ {S : Type 0} (G : Ghosts S) (issuer : Setup) (prefix : List ℕ) (logs 
             (seen-there shard store store_at);
       }
 
+  pub none-reported : (shard : ℕ) (book : ShardBook) → slice_get loaded.books shard ≡ Some book → book.reported ≡ 0
+  none-reported shard book book_at =
+      let within = slice_get_within loaded.books shard book book_at in
+      let books = loaded.kept.first_are in
+      let count = stores-count in
+      let store = at-place stores shard (omega (arith, within, books, count)) in
+      (is-at shard store.0 book (omega (arith, within, books)) store.1 book_at).keeps.was.none_reported
+
+  -- the count of a store was none
+  none-counted : (shard : ℕ) (store : S) → slice_get stores shard ≡ Some store → G.faults store ≡ 0
+  none-counted shard store store_at =
+      let within = slice_get_within stores shard store store_at in
+      let books = loaded.kept.first_are in
+      let count = stores-count in
+      let book = at-place loaded.books shard (omega (arith, within, books, count)) in
+      let at = is-at shard store book.0 (omega (arith, within, count)) store_at book.1 in
+      at.keeps.faults_are ∙ at.keeps.was.no_fault
+
+  pub stay-loaded : StayLoaded issuer prefix logs (journals_seen G olds stores)
+  stay-loaded = record {
+    first = loaded.books;
+    last = loaded.books;
+    kept = loaded.kept;
+    same = refl;
+    none_reported = none-reported;
+    lawful = loaded.lawful;
+  }
+
+  -- no store failed
+  pub stood-loaded : FailOnlyAt (map (store_seen G) stores) none_fails
+  stood-loaded = record {
+    each = λ shard seen seen_at.
+        let there = seen-store G stores shard seen seen_at in
+        subst (λ (s : SeenStore). s.faults ≡ 0) there.2 (none-counted shard there.0 there.1);
+  }
+
   -- the text of its book's history is all that a store holds
   pub holds-text : (shard : ℕ) (store : S) (book : ShardBook) (at : IsAt shard store book) (bytes : List ℕ)
       → G.bytes store ≡ Some bytes → bytes ≡ journal_text book.history
@@ -88,6 +153,9 @@ module _ {S : Type 0} (G : Ghosts S) (issuer : Setup) (prefix : List ℕ) (logs 
       last = recounted_all G loaded.books read;
       kept = keep-again G issuer prefix logs olds stores read loaded.books loaded.books loaded.kept only;
       same = recounted-histories G loaded.books read read-count;
+      none_reported = λ shard book book_at.
+          let was = recounted-reported G loaded.books read shard book book_at in
+          was.2 ∙ none-reported shard was.0 was.1;
       lawful = loaded.lawful;
     }
 
@@ -107,6 +175,19 @@ module _ {S : Type 0} (G : Ghosts S) (issuer : Setup) (prefix : List ℕ) (logs 
           before_at = before.1;
           bytes_are = (only.each shard before.0 store before.1 at).bytes_are;
         }
+
+    -- the stores that failed have counted it, and no other has
+    pub fail-read : (failed : ℕ → Bool) → CountAt G.faults stores read failed
+        → FailOnlyAt (map (store_seen G) read) failed
+    fail-read failed count = record {
+      each = λ shard seen seen_at.
+          let there = seen-store G read shard seen seen_at in
+          let its = is-read shard there.0 there.1 in
+          subst (λ (s : SeenStore). MatchBool (failed shard) (0 < s.faults) (s.faults ≡ 0)) there.2
+          (counted-from (failed shard) (G.faults its.before) (G.faults there.0)
+          (none-counted shard its.before its.before_at)
+          (count shard its.before there.0 its.before_at there.1).counted);
+    }
 
     -- the history that was filed is that of the book
     one-history : (shard : ℕ) (store : S) (book : ShardBook) (history : List Entry) (bytes : Option (List ℕ))

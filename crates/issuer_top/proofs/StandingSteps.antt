@@ -1,13 +1,14 @@
 -- How a run ends that takes a feed into journals.
-use Rattle.std.proofs.Common.{◌≡◌, ℕ, ◌<◌, Bool, true, false, List, [], length, map, Option, Some, Err}
-use Rattle.std.proofs.Common.{inl, inr, refl, sym, ap, subst, ◌∙◌, arith}
+use Rattle.std.proofs.Common.{◌≡◌, ℕ, ◌<◌, Bool, true, false, All as Each, List, [], length, map, Option, None, Some, Err}
+use Rattle.std.proofs.Common.{inl, inr, ⊎_elim, refl, sym, ap, subst, ◌∙◌, arith}
+use Rattle.std.proofs.lemmas.Bool.{eqb-true, false≢true}
 use Rattle.std.specs.Prelude.{slice_get, IfSome, MatchBool, is_some}
 use Rattle.std.specs.Option.{option_map}
 use Rattle.std.proofs.lemmas.Option.{slice_get-map, slice_get_within}
 use Rattle.std.specs.Io.KnownBytes.{Appends}
 use Rattle.issuer_base.specs.OutsideFaults.{Rose, CountsFaults}
 use Rattle.issuer_base.specs.Sink.{AppendsFront}
-use Rattle.issuer_base.specs.Stores.{BothTold, Disk, LeavesOnly}
+use Rattle.issuer_base.specs.Stores.{BothTold, Disk, LeavesOnly, MayLeave}
 use Rattle.issuer_base.specs.Desk.{FailedCall, is_fault, last_after}
 use Rattle.issuer_base.specs.declared.entry.Entry.{Entry}
 use Rattle.issuer_base.specs.declared.outside.DeskFault.{DeskFault}
@@ -20,18 +21,21 @@ use Rattle.issuer_base.proofs.ToldTwice.{BothTold-then}
 use Rattle.answer_text.specs.declared.stop_line.Stop.TheVariants.{ReadFault as ReadStop, StoreFault as StoreStop, NoMemory}
 use Rattle.answer_text.specs.declared.stop_line.Stop.TheVariants.{TooLong as LongStop, BadFeed as FeedStop}
 use Rattle.issuer_setup.specs.IssuerSetup.{Setup}
-use Rattle.journal_rec.specs.RecordText.{journal_text}
-use Rattle.journal_store.specs.Images.{IsImage}
+use Rattle.journal_rec.specs.Record.{IsRecord}
+use Rattle.journal_rec.specs.RecordText.{journal_text, text_of}
+use Rattle.journal_store.specs.Images.{HasSafeText, IsImage}
+use Rattle.journal_store.proofs.Passing.{leaves-image}
 use Rattle.shard_book.specs.declared.shard.Shard.{Shard}
 use Rattle.shard_book.specs.Grounds.{IsTail, grounds_of}
-use Rattle.shard_book.specs.Shards.{IsLoadImage, IsSettled, faults_in, store_in}
+use Rattle.card_history.specs.LegalRecords.{IsLegal}
+use Rattle.shard_book.specs.Shards.{HasTail, IsLoadImage, IsSettled, faults_in, store_in}
 use Rattle.shard_book.specs.Taking.{IsReplicaOf}
 use Rattle.host_loading.specs.Books.{ShardBook, histories_of}
 use Rattle.host_loading.specs.Hosts.{AreShards}
 use Rattle.standby_node.specs.declared.standby.Standby.{Standby}
 use Rattle.standby_node.specs.Standing.{Hold, IsReplicaBetween, KeepsShards, LeavesBetween, fails_at, shards_in}
-use Rattle.line_serving.specs.Following.{FollowsFeed, TakesFeed, WritesCounts, counts_text, fault_of, in_doubt_after, read_failed}
-use Rattle.line_serving.specs.Following.{write_failed}
+use Rattle.line_serving.specs.Following.{FollowsFeed, HasInHand, TakesFeed, WritesCounts, counts_text, fault_of, in_doubt_after}
+use Rattle.line_serving.specs.Following.{read_failed, write_failed}
 use Rattle.line_serving.specs.declared.follower.Followed.{Followed}
 use Rattle.line_serving.specs.declared.follower.Followed.TheVariants.{All, ReadFault, WriteFault, TooLong, BadFeed, StoreFault}
 use Rattle.desk_host.specs.SeenStores.{Logged, SeenStore, journals_seen, store_seen}
@@ -42,8 +46,9 @@ use Rattle.std.proofs.lemmas.Option.{same_Some}
 use Rattle.host_loading.proofs.Loads.{loaded-are}
 use Rattle.desk_host.specs.Configuration.{HasSoundParts}
 use Rattle.line_serving.proofs.Ready.{loaded-from}
-use Rattle.issuer_top.proofs.ReadingSteps.{stay-loaded}
+use Rattle.issuer_top.proofs.ReadingSteps.{stay-loaded, stood-loaded}
 use Rattle.desk_host.proofs.KeptSteps.{begins}
+use Rattle.desk_host.proofs.LoadedLaws.{lawful-loaded}
 use Rattle.desk_host.proofs.SeenSteps.{at-place, journal-held, mapped, seen-at, seen-store}
 use Rattle.issuer_base.specs.Tells.{Tells}
 use Rattle.std.proofs.KnownBytes.{Appends-nil}
@@ -55,8 +60,10 @@ use Rattle.issuer_top.specs.Seen.{Seen, SeenInput}
 use Rattle.issuer_top.specs.Opening.{GivesInput, stop_of}
 use Rattle.issuer_top.specs.Opened.{OpenedConfigOnly, OpenedBothInputs}
 use Rattle.issuer_top.specs.PinChanges.{SaysIssuer}
-use Rattle.issuer_top.specs.ReadAgain.{StayLoaded}
-use Rattle.issuer_top.specs.Standing.{IsReplicaImage, IsStandingBy, KeepReplicas, KeepsReplica, LoadsToStandBy, StandsBy}
+use Rattle.issuer_top.specs.ReadAgain.{StayLoaded, FailOnlyAt, none_fails}
+use Rattle.issuer_top.specs.Standing.{AreLawfulReplicas, IsReplicaImage, IsStandingBy, KeepReplicas, KeepsReplica}
+use Rattle.issuer_top.specs.Standing.{LoadsToStandBy, MayFollow, StandsBy}
+use Rattle.issuer_top.proofs.ReplicaLaws.{lawful-replicas}
 use Rattle.issuer_top.specs.Stopping.{EndsFollowing}
 use Rattle.issuer_top.specs.Endings.{HasIssuer, EndsBy}
 use Rattle.issuer_top.proofs.EndingSteps.{told-given, ends_by_stop, ends_at_once, StopsAtOnce}
@@ -78,6 +85,12 @@ crash-fed issuer shard old first last was mid now =
     (LeavesOnly-weaker (IsLoadImage old first a.now) P a b (λ image left. inl left) loads)
     (LeavesOnly-weaker (IsReplicaBetween issuer shard first last) P b c (λ image left. inr left) feeds))
 
+-- a crash now leaves the text, which is durable, and a prefix of the tail
+safe-now : (text tail : List ℕ) (disk : Option Disk) → IfSome disk (λ disk. HasSafeText text tail disk.now)
+    → IfSome disk (λ disk. (image : List ℕ) → MayLeave disk.now image → IsImage text tail image)
+safe-now text tail None safe = tt
+safe-now text tail (Some disk) safe = λ image left. leaves-image text tail disk.now image safe left
+
 -- the record of a shard is in doubt exactly if its store is the one that failed
 doubts-failed : (followed : Followed) (shard : ℕ) → fails_at (fault_of followed) shard ≡ in_doubt_after followed shard
 doubts-failed All shard = refl
@@ -87,31 +100,95 @@ doubts-failed (TooLong line) shard = refl
 doubts-failed (BadFeed line) shard = refl
 doubts-failed (StoreFault failed) shard = refl
 
+-- nothing may follow, whatever the end
+none-follows : (issuer : Setup) (opening : List (List Entry)) (file read : List ℕ) (followed : Followed)
+    (histories : List (List Entry)) (takes : TakesFeed issuer opening file read followed histories) (number : ℕ)
+    → MayFollow issuer opening file read followed histories takes number []
+none-follows issuer opening file read All histories takes number = refl
+none-follows issuer opening file read ReadFault histories takes number = refl
+none-follows issuer opening file read WriteFault histories takes number = refl
+none-follows issuer opening file read (TooLong line) histories takes number = refl
+none-follows issuer opening file read (BadFeed line) histories takes number = refl
+none-follows issuer opening file read (StoreFault shard) histories takes number = inl refl
+
 module _ {S : Type 0} {G : Ghosts S} where
-  -- what a shard that stands for a history, or is a replica of it, has in its store
-  record HasHistory (issuer : Setup) (number : ℕ) (shard : Shard S G) (history : List Entry) (in_doubt : Bool)
-      : Type 0 where
+  -- what is in doubt of a shard whose store failed
+  record IsDoubted (issuer : Setup) (number : ℕ) (shard : Shard S G) (history : List Entry)
+      (Follows : List ℕ → Type 0) : Type 0 where
     tail : List ℕ
     tail_is : IsTail (grounds_of issuer) number history tail
+    tail_of : Follows tail
+    has : HasTail shard history tail
+
+  doubted-by : (issuer : Setup) (opening : List (List Entry)) (file read : List ℕ) (followed : Followed)
+      (histories : List (List Entry)) (takes : TakesFeed issuer opening file read followed histories)
+      (now : List (Shard S G)) → HasInHand issuer opening file read followed histories takes now
+      → (number : ℕ) (shard : Shard S G) (history : List Entry) → slice_get now number ≡ Some shard
+      → slice_get histories number ≡ Some history → in_doubt_after followed number ≡ true
+      → IsDoubted issuer number shard history (MayFollow issuer opening file read followed histories takes number)
+  doubted-by issuer opening file read All histories takes now hand number shard history at history_at doubt =
+      absurd (false≢true doubt)
+  doubted-by issuer opening file read ReadFault histories takes now hand number shard history at history_at doubt =
+      absurd (false≢true doubt)
+  doubted-by issuer opening file read WriteFault histories takes now hand number shard history at history_at doubt =
+      absurd (false≢true doubt)
+  doubted-by issuer opening file read (TooLong line) histories takes now hand number shard history at history_at doubt =
+      absurd (false≢true doubt)
+  doubted-by issuer opening file read (BadFeed line) histories takes now hand number shard history at history_at doubt =
+      absurd (false≢true doubt)
+  doubted-by issuer opening file read (StoreFault failed) histories takes now hand number shard history at history_at doubt =
+      let same = eqb-true number failed doubt in
+      let its : takes.history ≡ history =
+      same_Some takes.history history
+      (sym takes.next.is_for.history_is ∙ subst (λ n. slice_get histories n ≡ Some history) same history_at) in
+      let legal = subst (λ n. IsLegal (grounds_of issuer) n history takes.entry) (sym same)
+      (subst (λ (h : List Entry). IsLegal (grounds_of issuer) failed h takes.entry) its takes.next.legal_line.legal) in
+      ⊎_elim
+      (λ none. record {
+        tail = [];
+        tail_is = inl refl;
+        tail_of = inl refl;
+        has = subst (λ (h : List Entry). HasTail shard h []) its none;
+      })
+      (λ some. record {
+        tail = text_of takes.entry;
+        tail_is = inr (takes.entry, takes.next.legal_line.line_is.0, legal, refl);
+        tail_of = inr (same, refl);
+        has = subst (λ (h : List Entry). HasTail shard h (text_of takes.entry)) its some;
+      })
+      (hand refl shard (subst (λ n. slice_get now n ≡ Some shard) same at))
+
+  -- what a shard that stands for a history, or is a replica of it, has in its store
+  record HasHistory (issuer : Setup) (number : ℕ) (shard : Shard S G) (history : List Entry) (in_doubt : Bool)
+      (Follows : List ℕ → Type 0) : Type 0 where
+    tail : List ℕ
+    tail_is : IsTail (grounds_of issuer) number history tail
+    tail_of : Follows tail
     bytes_are : IfSome (G.bytes (store_in shard)) (IsImage (journal_text history) tail)
+    disk_is : IfSome (G.disk (store_in shard)) (λ disk. HasSafeText (journal_text history) tail disk.now)
     doubted : MatchBool in_doubt (0 < faults_in shard) ((tail ≡ []) × (faults_in shard ≡ 0))
 
   has-history : (issuer : Setup) (number : ℕ) (shard : Shard S G) (history : List Entry) (in_doubt : Bool)
-      → shard.rows.shard ≡ number
+      (Follows : List ℕ → Type 0) → Follows []
       → MatchBool in_doubt (IsReplicaOf issuer shard history) (IsSettled issuer shard history)
-      → CountsFaults 0 (faults_in shard) in_doubt → HasHistory issuer number shard history in_doubt
-  has-history issuer number shard history true number_is replica counts =
-      let holds = replica.journal_holds in
+      → (in_doubt ≡ true → IsDoubted issuer number shard history Follows)
+      → CountsFaults 0 (faults_in shard) in_doubt → HasHistory issuer number shard history in_doubt Follows
+  has-history issuer number shard history true Follows none replica doubt counts =
+      let its = doubt refl in
       record {
-        tail = holds.tail;
-        tail_is = subst (λ (n : ℕ). IsTail (grounds_of issuer) n history holds.tail) number_is holds.tail_is;
-        bytes_are = holds.holds.bytes_are;
+        tail = its.tail;
+        tail_is = its.tail_is;
+        tail_of = its.tail_of;
+        bytes_are = its.has.bytes_are;
+        disk_is = its.has.disk_is;
         doubted = Rose-from_none (faults_in shard) counts.counted;
       }
-  has-history issuer number shard history false number_is settled counts = record {
+  has-history issuer number shard history false Follows none settled doubt counts = record {
     tail = [];
     tail_is = inl refl;
+    tail_of = none;
     bytes_are = settled.settled.bytes_are;
+    disk_is = settled.settled.disk_is;
     doubted = (refl, counts.counted);
   }
 
@@ -119,7 +196,11 @@ module _ {S : Type 0} {G : Ghosts S} where
       (ready : IsReady issuer prefix logs olds loaded)
       (before : AreShards issuer loaded) (after : AreShards issuer now)
       (told : (store : S) → IfSome (G.disk store) (λ disk. G.bytes store ≡ Some disk.now.bytes))
-      (followed : Followed) (histories : List (List Entry))
+      (followed : Followed) (histories : List (List Entry)) (file read : List ℕ)
+      (takes : TakesFeed issuer (histories_of (begins issuer prefix logs olds loaded ready).books) file read followed
+      histories)
+      (hand : HasInHand issuer (histories_of (begins issuer prefix logs olds loaded ready).books) file read followed
+      histories takes now)
       (hold : Hold issuer (in_doubt_after followed) now histories)
       (leaves : LeavesBetween issuer (histories_of (begins issuer prefix logs olds loaded ready).books) histories loaded
       now)
@@ -129,7 +210,9 @@ module _ {S : Type 0} {G : Ghosts S} where
         → slice_get histories shard ≡ Some history → slice_get (map (store_seen G) olds) shard ≡ Some old_seen
         → slice_get (map (store_seen G) (map store_in now)) shard ≡ Some seen
         → KeepsReplica issuer shard (logs (old_name prefix shard)) (logs (journal_name prefix shard)) was history
-        (in_doubt_after followed shard) old_seen seen
+        (in_doubt_after followed shard)
+        (MayFollow issuer (histories_of (begins issuer prefix logs olds loaded ready).books) file read followed histories
+        takes shard) old_seen seen
     keeps-replica shard was history old_seen seen was_at history_at old_at seen_at =
         let books = begins issuer prefix logs olds loaded ready in
         let here = seen-at now shard seen seen_at in
@@ -155,15 +238,20 @@ module _ {S : Type 0} {G : Ghosts S} where
         subst (CountsFaults 0 (faults_in here.0)) (doubts-failed followed shard)
         (subst (λ (n : ℕ). CountsFaults n (faults_in here.0) (fails_at (fault_of followed) shard)) faults_one
         call.counts) in
-        let has = has-history issuer shard here.0 history (in_doubt_after followed shard)
-        (after.numbers_are shard here.0 here.1) (hold.each shard here.0 history here.1 history_at) counts in
+        let opening = histories_of books.books in
+        let Follows : List ℕ → Type 0 = MayFollow issuer opening file read followed histories takes shard in
+        let has = has-history issuer shard here.0 history (in_doubt_after followed shard) Follows
+        (none-follows issuer opening file read followed histories takes shard)
+        (hold.each shard here.0 history here.1 history_at)
+        (doubted-by issuer opening file read followed histories takes now hand shard here.0 history here.1 history_at)
+        counts in
         let was_history = slice_get-map (λ (b : ShardBook). b.history) books.books shard
         ∙ ap (option_map (λ (b : ShardBook). b.history)) was_at in
         subst
-        (λ (s : SeenStore). KeepsReplica issuer shard old_held held was history (in_doubt_after followed shard) old_seen
-        s) here.2
+        (λ (s : SeenStore). KeepsReplica issuer shard old_held held was history (in_doubt_after followed shard) Follows
+        old_seen s) here.2
         (subst
-        (λ (s : SeenStore). KeepsReplica issuer shard old_held held was history (in_doubt_after followed shard) s
+        (λ (s : SeenStore). KeepsReplica issuer shard old_held held was history (in_doubt_after followed shard) Follows s
         (store_seen G (store_in here.0))) old_here.2
         (record {
           old = book.old_history;
@@ -179,8 +267,10 @@ module _ {S : Type 0} {G : Ghosts S} where
           extended = leaves.extended shard was.history history was_history history_at;
           tail = has.tail;
           tail_is = has.tail_is;
+          tail_of = has.tail_of;
           bytes_are = has.bytes_are;
           doubted = has.doubted;
+          crash_now = safe-now (journal_text history) has.tail (G.disk (store_in here.0)) has.disk_is;
           crash_since =
               crash-since (IsReplicaImage issuer shard book.old_history was.history history) held (G.bytes store.0)
               (G.disk store.0) (G.disk (store_in here.0))
@@ -193,12 +283,15 @@ module _ {S : Type 0} {G : Ghosts S} where
     pub keep-replicas : (stores : List S) → stores ≡ map store_in now
         → KeepReplicas issuer prefix logs (journals_seen G olds stores) (begins issuer prefix logs olds loaded ready).books
         histories (in_doubt_after followed)
+        (MayFollow issuer (histories_of (begins issuer prefix logs olds loaded ready).books) file read followed histories
+        takes)
     keep-replicas stores stores_are =
         let books = begins issuer prefix logs olds loaded ready in
         let olds_count : length olds ≡ issuer.shards = ready.loaded.read_are ∙ ready.opened.stores_count in
         subst
         (λ (ss : List S). KeepReplicas issuer prefix logs (journals_seen G olds ss) books.books histories
-        (in_doubt_after followed)) (sym stores_are)
+        (in_doubt_after followed)
+        (MayFollow issuer (histories_of books.books) file read followed histories takes)) (sym stores_are)
         (record {
           olds_are = mapped (store_seen G) olds ∙ olds_count;
           stores_are = mapped (store_seen G) (map store_in now) ∙ mapped store_in now ∙ after.count_is;
@@ -249,6 +342,14 @@ module _ {S : Type 0} {G : Ghosts S} (issuer : Setup) (prefix : List ℕ) (logs 
       stay-loaded G issuer prefix logs olds stores
       (loaded-from issuer prefix logs olds loaded ready sound told stores stores_are)
 
+  -- none of which failed
+  pub ready-stood : HasSoundParts issuer
+      → ((store : S) → IfSome (G.disk store) (λ disk. G.bytes store ≡ Some disk.now.bytes))
+      → (stores : List S) → stores ≡ map store_in loaded → FailOnlyAt (map (store_seen G) stores) none_fails
+  ready-stood sound told stores stores_are =
+      stood-loaded G issuer prefix logs olds stores
+      (loaded-from issuer prefix logs olds loaded ready sound told stores stores_are)
+
 -- what of the feed was read, and what it makes
 pub record ReadsFeed (issuer : Setup) (opening : List (List Entry)) (was now : Option (List ℕ)) (followed : Followed)
     (histories : List (List Entry)) : Type 0 where
@@ -264,22 +365,32 @@ module _ {S : Type 0} {G : Ghosts S} (issuer : Setup) (prefix : List ℕ) (logs 
     (told : (store : S) → IfSome (G.disk store) (λ disk. G.bytes store ≡ Some disk.now.bytes))
     (old new : Standby S G) (begun : shards_in old ≡ loaded) (followed : Followed)
     (keeps : KeepsShards issuer (shards_in old) (fault_of followed) (shards_in new)) where
-  pub took-feed : (was now : Option (List ℕ)) (histories : List (List Entry))
+  -- the entries of the histories are records
+  record-all : (shard : Shard S G) (history : List Entry) (in_doubt : Bool)
+      → MatchBool in_doubt (IsReplicaOf issuer shard history) (IsSettled issuer shard history) → Each IsRecord history
+  record-all shard history true replica = replica.journal_holds.records
+  record-all shard history false settled = settled.stands.journal_holds.records
+
+  records-held : (histories : List (List Entry)) → Hold issuer (in_doubt_after followed) (shards_in new) histories
+      → (number : ℕ) (history : List Entry) → slice_get histories number ≡ Some history → Each IsRecord history
+  records-held histories hold number history history_at =
+      let within = slice_get_within histories number history history_at in
+      let count = hold.count_is in
+      let shard = at-place (shards_in new) number (omega (arith, within, count)) in
+      record-all shard.0 history (in_doubt_after followed number) (hold.each number shard.0 history shard.1 history_at)
+
+  pub took-feed : HasSoundParts issuer → (was now : Option (List ℕ)) (histories : List (List Entry))
       → FollowsFeed issuer (histories_of (begins issuer prefix logs olds loaded ready).books) was now old new followed
       histories
       → (stores : List S) → stores ≡ map store_in (shards_in new)
-      → KeepReplicas issuer prefix logs (journals_seen G olds stores) (begins issuer prefix logs olds loaded ready).books
+      → (reads : ReadsFeed issuer (histories_of (begins issuer prefix logs olds loaded ready).books) was now followed
+      histories)
+      × KeepReplicas issuer prefix logs (journals_seen G olds stores) (begins issuer prefix logs olds loaded ready).books
       histories (in_doubt_after followed)
-      × ReadsFeed issuer (histories_of (begins issuer prefix logs olds loaded ready).books) was now followed histories
-  took-feed was now histories follows stores stores_are = (
-    keep-replicas issuer prefix logs olds loaded (shards_in new) ready (ready-are issuer prefix logs olds loaded ready)
-        keeps.shards told followed histories follows.hold
-        (subst
-        (λ (shards : List (Shard S G)).
-        LeavesBetween issuer (histories_of (begins issuer prefix logs olds loaded ready).books) histories shards
-        (shards_in new)) begun follows.leaves)
-        (subst (λ (shards : List (Shard S G)). KeepsShards issuer shards (fault_of followed) (shards_in new)) begun keeps)
-        stores stores_are,
+      (MayFollow issuer (histories_of (begins issuer prefix logs olds loaded ready).books) reads.file reads.read followed
+      histories reads.takes)
+      × AreLawfulReplicas issuer histories
+  took-feed sound was now histories follows stores stores_are = (
     record {
       file = follows.file;
       read = follows.read;
@@ -287,6 +398,18 @@ module _ {S : Type 0} {G : Ghosts S} (issuer : Setup) (prefix : List ℕ) (logs 
       was_read = follows.was_read;
       takes = follows.takes;
     },
+    keep-replicas issuer prefix logs olds loaded (shards_in new) ready (ready-are issuer prefix logs olds loaded ready)
+        keeps.shards told followed histories follows.file follows.read follows.takes follows.in_hand follows.hold
+        (subst
+        (λ (shards : List (Shard S G)).
+        LeavesBetween issuer (histories_of (begins issuer prefix logs olds loaded ready).books) histories shards
+        (shards_in new)) begun follows.leaves)
+        (subst (λ (shards : List (Shard S G)). KeepsShards issuer shards (fault_of followed) (shards_in new)) begun keeps)
+        stores stores_are,
+    lawful-replicas issuer sound (begins issuer prefix logs olds loaded ready).books
+        (lawful-loaded issuer prefix logs olds loaded ready (ready-are issuer prefix logs olds loaded ready) sound)
+        histories (follows.hold.count_is ∙ keeps.shards.count_is) (records-held histories follows.hold) follows.file
+        follows.read followed follows.takes,
   )
 
 -- ---- the ways that a standby ends
@@ -321,9 +444,17 @@ standby-issuer seen feed journal issuer set_up = record {
 }
 
 module _ (seen : Seen) (feed journal : List ℕ) (issuer : Setup) (set_up : IsStandingBy seen feed journal issuer) where
-  module _ (stay : StayLoaded issuer journal seen.desk.logs seen.journals) where
+  module _ (stay : StayLoaded issuer journal seen.desk.logs seen.journals)
+      (counted : FailOnlyAt seen.journals.stores none_fails) where
     loads : LoadsToStandBy seen
-    loads = record { feed = feed; journal = journal; issuer = issuer; set_up = set_up; stay = stay }
+    loads = record {
+      feed = feed;
+      journal = journal;
+      issuer = issuer;
+      set_up = set_up;
+      stay = stay;
+      counted = counted;
+    }
 
     -- no memory was left to take a feed with
     pub ends_unfollowed : (ending : Ending) → OpenedConfigOnly seen → StopsAtOnce seen NoMemory ending
@@ -372,8 +503,10 @@ module _ (seen : Seen) (feed journal : List ℕ) (issuer : Setup) (set_up : IsSt
     -- the feed was taken, up to this end
     abbrev pub Took : Followed → List (List Entry) → Type 0
     Took followed histories =
-        KeepReplicas issuer journal seen.desk.logs seen.journals first histories (in_doubt_after followed)
-        × ReadsFeed issuer (histories_of first) left input.left followed histories
+        (reads : ReadsFeed issuer (histories_of first) left input.left followed histories)
+        × KeepReplicas issuer journal seen.desk.logs seen.journals first histories (in_doubt_after followed)
+        (MayFollow issuer (histories_of first) reads.file reads.read followed histories reads.takes)
+        × AreLawfulReplicas issuer histories
 
     stands : (followed : Followed) (histories : List (List Entry)) → Took followed histories → StandsBy followed seen
     stands followed histories took = record {
@@ -384,15 +517,16 @@ module _ (seen : Seen) (feed journal : List ℕ) (issuer : Setup) (set_up : IsSt
       opened = opened;
       input = input;
       input_is = input_is;
-      file = took.1.file;
-      read = took.1.read;
-      held = told-given (seen.desk.tells feed) left took.1.file given took.1.content;
-      was_read = took.1.was_read;
+      file = took.0.file;
+      read = took.0.read;
+      held = told-given (seen.desk.tells feed) left took.0.file given took.0.content;
+      was_read = took.0.was_read;
       first = first;
       lawful = lawful;
       histories = histories;
-      takes = took.1.takes;
-      kept = took.0;
+      takes = took.0.takes;
+      last_lawful = took.2;
+      kept = took.1;
     }
 
     -- how the run ends, by how taking the feed did

@@ -16,7 +16,7 @@ use Rattle.journal_reader.specs.declared.filing.FilingFault.{FilingFault}
 use Rattle.desk_host.specs.SeenStores.{SeenJournals}
 use Rattle.issuer_top.specs.Opened.{OpenedConfigOnly, OpenedBothInputs, FailsToOpen}
 use Rattle.issuer_top.specs.PinChanges.{SaysIssuer}
-use Rattle.issuer_top.specs.ReadAgain.{StayLoaded, AreRead, StopsReading, stop_of_reading}
+use Rattle.issuer_top.specs.ReadAgain.{StayLoaded, AreRead, FailOnlyAt, StopsReading, failed_at, none_fails, stop_of_reading}
 use Rattle.issuer_top.specs.Seen.{Seen, SeenInput}
 
 -- the words are the command to check clearing lines, with this clearing file and this name of journals, and the
@@ -46,10 +46,11 @@ pub record FilesBooks (issuer : Setup) (journals : SeenJournals) (books : List S
 -- ---- the clearing lines
 
 -- lines of the clearing file were read and checked against the records of the journals, and this is what that prints:
--- the verdicts, or the whole text
+-- the verdicts, or the whole text. No store failed
 pub record ChecksLines (text_of : Setup → List Filed → List (List ℕ) → List ℕ) (seen : Seen) (text : List ℕ)
     : Type 0 where
   pub loaded : LoadsToClear seen
+  pub stood : FailOnlyAt seen.journals.stores none_fails
   pub opened : OpenedBothInputs seen
   pub records : List Filed
   pub filed : FilesBooks loaded.issuer seen.journals loaded.stay.first records
@@ -72,9 +73,10 @@ pub record IsCheckBegun (seen : Seen) (text : List ℕ) : Type 0 where
   pub lines : ChecksLines verdicts_text seen text
   pub which : AreFirstLines lines.file lines.read lines.asked
 
--- status 3: the desk failed at the clearing file's name, once the records of the journals were filed
+-- status 3: the desk failed at the clearing file's name, once the records of the journals were filed; no store failed
 pub record CannotOpenClearing (seen : Seen) (text : List ℕ) : Type 0 where
   pub loaded : LoadsToClear seen
+  pub stood : FailOnlyAt seen.journals.stores none_fails
   pub fails : FailsToOpen seen loaded.clearing true
   pub told : text ≡ stop_text ReadFault
 
@@ -86,20 +88,23 @@ pub record CannotReadClearing (seen : Seen) (text : List ℕ) : Type 0 where
   pub failed : 0 < lines.input.faults
   pub last : text ≡ verdicts ++ stop_text ReadFault
 
--- statuses 5 and 6: the journals were loaded, and couldn't be read again; the clearing file was not opened
+-- statuses 5 and 6: the journals were loaded, and that of this shard couldn't be read again; the clearing file was not
+-- opened. No other store failed
 pub record CannotReadAgain (stop : Stop) (seen : Seen) (text : List ℕ) : Type 0 where
   pub loaded : LoadsToClear seen
   pub opened : OpenedConfigOnly seen
   pub fault : FilingFault
   pub shard : ℕ
+  pub counted : FailOnlyAt seen.journals.stores (failed_at fault shard)
   pub cause : StopsReading seen.journals.stores shard fault
   pub stop_is : stop ≡ stop_of_reading fault shard
   pub last : text ≡ stop_text stop
 
 -- status 7: no memory was left to check clearing lines with, once the journals were loaded and before the clearing file
--- was opened
+-- was opened; no store failed
 pub record CannotCheck (seen : Seen) (text : List ℕ) : Type 0 where
   pub loaded : LoadsToClear seen
+  pub stood : FailOnlyAt seen.journals.stores none_fails
   pub opened : OpenedConfigOnly seen
   pub told : text ≡ stop_text NoMemory
 

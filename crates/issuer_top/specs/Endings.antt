@@ -48,7 +48,7 @@ use Rattle.desk_host.specs.Shown.{shown_text}
 use Rattle.issuer_top.specs.Status.{status_of}
 use Rattle.issuer_top.specs.Played.{IsWorldText}
 use Rattle.issuer_top.specs.Filling.{filling}
-use Rattle.issuer_top.specs.PinChanges.{SaysIssuer, changing}
+use Rattle.issuer_top.specs.PinChanges.{IsReadAsChange, SaysIssuer, changing}
 use Rattle.issuer_top.specs.declared.ending.Ending.{Ending}
 use Rattle.issuer_top.specs.declared.ending.Ending.TheVariants.{Done, Stopped, WriteFault}
 
@@ -164,12 +164,13 @@ pub record IsOrdered (seen : Seen) (order : PinOrder) (issuer : Setup) : Type 0 
   pub none_opened : seen.journals ≡ no_journals
   pub said : SaysIssuer seen order.config issuer
 
--- the line that queues a change of a PIN is the text
+-- the line that queues a change of a PIN is the text, and `serve` reads it as that change
 pub record IsChanged (seen : Seen) (text : List ℕ) : Type 0 where
   pub order : PinOrder
   pub issuer : Setup
   pub ordered : IsOrdered seen order issuer
   pub text_is : changing issuer order ≡ Ok text
+  pub read : IsReadAsChange issuer order text
 
 -- status 0: all lines of the request file were answered, all cards were shown, a world was played, a DOL was filled, a
 -- change of a PIN was written, all lines of a clearing file were checked, the feed of all records was written, or a

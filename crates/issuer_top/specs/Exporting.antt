@@ -1,5 +1,5 @@
 -- How a run ends that writes the records of the journals as a feed.
-use Rattle.std.specs.Prelude.{◌≡◌, ℕ, ◌<◌, List, [], ◌∷◌, ◌++◌, length, slice_get, Some}
+use Rattle.std.specs.Prelude.{◌≡◌, ◌⊎◌, ℕ, ◌+◌, ◌<◌, ◌==◌, List, [], ◌∷◌, ◌++◌, length, slice_get, Some}
 use Rattle.issuer_base.specs.declared.entry.Entry.{Entry}
 use Rattle.answer_text.specs.StopText.{stop_text}
 use Rattle.answer_text.specs.declared.stop_line.Stop.{Stop}
@@ -8,12 +8,14 @@ use Rattle.issuer_setup.specs.IssuerSetup.{Setup}
 use Rattle.host_loading.specs.Books.{ShardBook}
 use Rattle.command_line.specs.Command.{IsExport}
 use Rattle.journal_reader.specs.declared.reader.RecordFault.{RecordFault}
+use Rattle.journal_reader.specs.declared.reader.RecordFault.TheVariants.{StoreFault, BadLine}
 use Rattle.journal_reader.specs.Filing.{fault_of}
 use Rattle.journal_reader.specs.Exporting.{feed_text}
 use Rattle.desk_host.specs.SeenStores.{SeenJournals}
 use Rattle.issuer_top.specs.Opened.{OpenedConfigOnly}
 use Rattle.issuer_top.specs.PinChanges.{SaysIssuer}
-use Rattle.issuer_top.specs.ReadAgain.{StayLoaded, AreRead, ReadsAs, StopsReading, stop_of_reading}
+use Rattle.issuer_top.specs.ReadAgain.{StayLoaded, AreRead, FailOnlyAt, ReadsAs, StopsReading, failed_at, none_fails}
+use Rattle.issuer_top.specs.ReadAgain.{stop_of_reading}
 use Rattle.issuer_top.specs.Seen.{Seen}
 
 -- the words are the command to export, with this name of journals, and the configuration says this issuer
@@ -53,32 +55,43 @@ pub record IsFeedUpTo (journals : SeenJournals) (books : List ShardBook) (shard 
   pub at : ReadsAs AreFirst journals books shard first
   pub feed_is : feed ≡ feed_text (histories ++ first ∷ [])
 
+-- the line that is bad is the next one after these records, or the first one, which isn't `v2`
+abbrev pub IsLineAfter : List Entry → RecordFault → Type 0
+IsLineAfter records StoreFault = Unit {0}
+IsLineAfter records (BadLine line) = (line ≡ length records + 2) ⊎ ((records ≡ []) × (line ≡ 1))
+
 -- ---- the ways to end
 
--- status 0: the feed of all records was written
+-- status 0: the feed of all records was written, and no store failed; at status 4 it was due
 pub record IsExported (seen : Seen) (text : List ℕ) : Type 0 where
   pub loaded : LoadsToExport seen
+  pub stood : FailOnlyAt seen.journals.stores none_fails
   pub feed : IsFeed seen.journals loaded.stay.first text
 
--- status 4: the feed of the first records
+-- status 4: the feed of the first records. At most the store of the shard that they end in failed
 pub record IsExportBegun (seen : Seen) (text : List ℕ) : Type 0 where
   pub loaded : LoadsToExport seen
   pub shard : ℕ
+  pub counted :
+      FailOnlyAt seen.journals.stores none_fails ⊎ FailOnlyAt seen.journals.stores (λ number. shard == number)
   pub feed : IsFeedUpTo seen.journals loaded.stay.first shard text
 
 -- statuses 5 and 6: the journals were loaded, and the one of this shard couldn't be read on; the feed of the records
--- before is written
+-- before is written, and a bad line is the one after them. No other store failed
 pub record CannotReadOn (stop : Stop) (seen : Seen) (text : List ℕ) : Type 0 where
   pub loaded : LoadsToExport seen
   pub shard : ℕ
+  pub fault : RecordFault
+  pub counted : FailOnlyAt seen.journals.stores (failed_at (fault_of fault) shard)
   pub written : List ℕ
   pub feed : IsFeedUpTo seen.journals loaded.stay.first shard written
-  pub fault : RecordFault
+  pub line_is : IsLineAfter feed.first fault
   pub cause : StopsReading seen.journals.stores shard (fault_of fault)
   pub stop_is : stop ≡ stop_of_reading (fault_of fault) shard
   pub last : text ≡ written ++ stop_text stop
 
--- status 7: no memory was left to export with, once the journals were loaded
+-- status 7: no memory was left to export with, once the journals were loaded; no store failed
 pub record CannotExport (seen : Seen) (text : List ℕ) : Type 0 where
   pub loaded : LoadsToExport seen
+  pub stood : FailOnlyAt seen.journals.stores none_fails
   pub told : text ≡ stop_text NoMemory

@@ -11,6 +11,9 @@ use Rattle.des_block.specs.declared.Key16.{Key16}
 use Rattle.key_derive.specs.declared.card.KeySet.{KeySet}
 use Rattle.key_derive.specs.CardKey.{card_smc}
 use Rattle.secure_msg.specs.PinChange.{pin_command}
+use Rattle.card_history.specs.declared.decision.Asked.TheVariants.{Queue}
+use Rattle.line_reader.specs.Lines.{ended}
+use Rattle.line_checks.specs.Reading.{reading}
 use Rattle.issuer_setup.specs.CardList.{number_of}
 use Rattle.issuer_setup.specs.IssuerSetup.{Setup}
 use Rattle.issuer_setup.specs.KeyList.{key_of}
@@ -44,6 +47,15 @@ change_by order (Some smc) = Ok (change_text order smc)
 
 abbrev pub changing : Setup → PinOrder → Result (List ℕ) Stop
 changing issuer order = change_by order (smc_for issuer order)
+
+-- the text is a line, and with this issuer `serve` takes that line for the change of the order's PIN on its card, under
+-- the card's key
+pub record IsReadAsChange (issuer : Setup) (order : PinOrder) (text : List ℕ) : Type 0 where
+  pub line : List ℕ
+  pub line_is : text ≡ ended line
+  pub smc : Key16
+  pub smc_is : smc_for issuer order ≡ Some smc
+  pub read : reading issuer line ≡ Ok (Queue order.pan order.psn (pin_command smc.0 order.salt order.pin))
 
 -- the sink was given the line, or the last line of a run that stops
 abbrev pub ChangesBy : Result (List ℕ) Stop → Option (List ℕ) → Option (List ℕ) → ℕ → ℕ → Ending → Type 0

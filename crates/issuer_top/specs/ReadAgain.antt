@@ -1,5 +1,5 @@
 -- Journals that were loaded, and are read again from their stores.
-use Rattle.std.specs.Prelude.{◌≡◌, ℕ, ◌<◌, List, length, slice_get, Some, None, IfSome}
+use Rattle.std.specs.Prelude.{◌≡◌, ℕ, ◌<◌, ◌==◌, Bool, false, MatchBool, List, length, slice_get, Some, None, IfSome}
 use Rattle.issuer_base.specs.declared.entry.Entry.{Entry}
 use Rattle.answer_text.specs.declared.stop_line.Stop.{Stop}
 use Rattle.answer_text.specs.declared.stop_line.Stop.TheVariants.{StoreFault, BadJournal, NoMemory}
@@ -12,14 +12,30 @@ use Rattle.desk_host.specs.Kept.{KeepJournals}
 use Rattle.desk_host.specs.Lawful.{IsLawful}
 use Rattle.desk_host.specs.SeenStores.{Logged, SeenStore, SeenJournals}
 
--- the journals are as loading left them: no record was added, and the run is lawful. A store may have failed while it
--- was read again
+-- the journals are as loading left them: no record was added, no call reported a fault, so that none is in doubt, and
+-- the run is lawful. A store may have failed while it was read again
 pub record StayLoaded (issuer : Setup) (journal : List ℕ) (logs : Logged) (journals : SeenJournals) : Type 0 where
   pub first : List ShardBook
   pub last : List ShardBook
   pub kept : KeepJournals issuer journal logs journals first last
   pub same : histories_of last ≡ histories_of first
+  pub none_reported : (shard : ℕ) (book : ShardBook) → slice_get last shard ≡ Some book → book.reported ≡ 0
   pub lawful : IsLawful issuer first first
+
+-- just the stores of the shards that failed have counted a fault
+pub record FailOnlyAt (stores : List SeenStore) (failed : ℕ → Bool) : Type 0 where
+  pub each : (shard : ℕ) (store : SeenStore) → slice_get stores shard ≡ Some store
+      → MatchBool (failed shard) (0 < store.faults) (store.faults ≡ 0)
+
+-- no shard's store failed
+abbrev pub none_fails : ℕ → Bool
+none_fails shard = false
+
+-- the store that failed, if one did, is that of the shard whose journal couldn't be read on
+abbrev pub failed_at : FilingFault → ℕ → ℕ → Bool
+failed_at StoreFails shard number = shard == number
+failed_at (BadLine line) shard number = false
+failed_at NoRoom shard number = false
 
 -- what was read of this shard's journal compares so with its book's history, where the store's bytes are observable
 abbrev pub ReadsAs : (List Entry → List Entry → Type 0) → SeenJournals → List ShardBook → ℕ → List Entry → Type 0

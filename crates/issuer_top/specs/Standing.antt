@@ -1,13 +1,18 @@
 -- How a run ends that takes a feed into the journals of a standby.
-use Rattle.std.specs.Prelude.{◌≡◌, ◌⊎◌, ℕ, ◌<◌, Bool, true, MatchBool, List, [], length, slice_get, Option, Some, IfSome}
-use Rattle.issuer_base.specs.Stores.{Moment}
+use Rattle.std.specs.Prelude.{◌≡◌, ◌⊎◌, ℕ, ◌<◌, Bool, true, MatchBool, List, [], length, slice_get, slice_index_or, Option, Some}
+use Rattle.std.specs.Prelude.{All, IfSome}
+use Rattle.issuer_base.specs.Stores.{MayLeave, Moment}
 use Rattle.issuer_base.specs.Tells.{Tells}
 use Rattle.issuer_base.specs.declared.entry.Entry.{Entry}
 use Rattle.answer_text.specs.StopText.{stop_text}
 use Rattle.answer_text.specs.declared.stop_line.Stop.TheVariants.{ReadFault as ReadStop, StoreFault as StoreStop, NoMemory}
 use Rattle.answer_text.specs.declared.stop_line.Stop.TheVariants.{TooLong as LongStop, BadFeed as FeedStop}
+use Rattle.issuer_base.specs.CardNames.{CardName}
+use Rattle.card_history.specs.OneReply.{IsOncePerCounter}
+use Rattle.card_history.specs.ScriptOrder.{AreInOrder}
 use Rattle.issuer_setup.specs.IssuerSetup.{Setup}
-use Rattle.journal_rec.specs.RecordText.{journal_text}
+use Rattle.journal_rec.specs.Record.{IsRecord}
+use Rattle.journal_rec.specs.RecordText.{journal_text, text_of}
 use Rattle.journal_store.specs.Images.{IsImage}
 use Rattle.shard_book.specs.Grounds.{IsTail, grounds_of}
 use Rattle.shard_book.specs.Histories.{GoesOn}
@@ -15,18 +20,21 @@ use Rattle.shard_book.specs.Shards.{IsLoadImage}
 use Rattle.host_loading.specs.Books.{ShardBook, histories_of}
 use Rattle.command_line.specs.Command.{IsStandby}
 use Rattle.line_blocks.specs.Answered.{WasRead}
+use Rattle.standby_node.specs.Primary.{AreLegal}
 use Rattle.standby_node.specs.Standing.{IsReplicaBetween}
 use Rattle.line_serving.specs.Following.{TakesFeed, counts_text, in_doubt_after}
 use Rattle.line_serving.specs.declared.follower.Followed.{Followed}
-use Rattle.line_serving.specs.declared.follower.Followed.TheVariants.{ReadFault, TooLong, BadFeed, StoreFault}
+use Rattle.line_serving.specs.declared.follower.Followed.TheVariants.{All as FollowsAll, ReadFault, WriteFault, TooLong, BadFeed}
+use Rattle.line_serving.specs.declared.follower.Followed.TheVariants.{StoreFault}
 use Rattle.desk_host.specs.Journals.{old_name, journal_name}
 use Rattle.desk_host.specs.Kept.{WasJournal}
 use Rattle.desk_host.specs.Lawful.{IsLawful}
 use Rattle.desk_host.specs.Left.{CrashSince, StaysAsOpened}
 use Rattle.desk_host.specs.SeenStores.{Logged, SeenStore, SeenJournals}
+use Rattle.desk_host.specs.Worlds.{HaveSafeWorlds}
 use Rattle.issuer_top.specs.Opened.{OpenedConfigOnly, OpenedBothInputs, FailsToOpen}
 use Rattle.issuer_top.specs.PinChanges.{SaysIssuer}
-use Rattle.issuer_top.specs.ReadAgain.{StayLoaded}
+use Rattle.issuer_top.specs.ReadAgain.{StayLoaded, FailOnlyAt, none_fails}
 use Rattle.issuer_top.specs.Seen.{Seen, SeenInput}
 
 -- the words are the command to take a feed, with this feed and this name of journals, and the configuration says this
@@ -44,11 +52,23 @@ abbrev pub IsReplicaImage : Setup → ℕ → List Entry → List Entry → List
 IsReplicaImage issuer shard old first last opened image =
     IsLoadImage old first opened image ⊎ IsReplicaBetween issuer shard first last image
 
+-- what may follow the text of the history with this number after a feed: nothing, or a prefix of the text of the record
+-- at which the store of the shard failed
+abbrev pub MayFollow : (issuer : Setup) (opening : List (List Entry)) (file read : List ℕ) (followed : Followed)
+    (histories : List (List Entry)) → TakesFeed issuer opening file read followed histories → ℕ → List ℕ → Type 0
+MayFollow issuer opening file read FollowsAll histories takes number tail = tail ≡ []
+MayFollow issuer opening file read WriteFault histories takes number tail = tail ≡ []
+MayFollow issuer opening file read ReadFault histories takes number tail = tail ≡ []
+MayFollow issuer opening file read (TooLong line) histories takes number tail = tail ≡ []
+MayFollow issuer opening file read (BadFeed line) histories takes number tail = tail ≡ []
+MayFollow issuer opening file read (StoreFault shard) histories takes number tail =
+    (tail ≡ []) ⊎ ((number ≡ shard) × (tail ≡ text_of takes.entry))
+
 -- the journal of a shard was that of the first book, and is the text of this history, which extends the book's. If its
--- next record is in doubt, its store counted a fault, and a prefix of the text of a valid successor may follow. The old
--- journal stays as it was
+-- next record is in doubt, its store counted a fault, and a prefix of the text of such a valid successor may follow. A
+-- crash now leaves such bytes too. The old journal stays as it was
 pub record KeepsReplica (issuer : Setup) (shard : ℕ) (old_held held : Option (List ℕ)) (first : ShardBook)
-    (history : List Entry) (in_doubt : Bool) (old_store store : SeenStore) : Type 0 where
+    (history : List Entry) (in_doubt : Bool) (Follows : List ℕ → Type 0) (old_store store : SeenStore) : Type 0 where
   pub old : List Entry
   pub was : WasJournal issuer shard old_held held old first
   pub old_stays : StaysAsOpened old_held old_store
@@ -56,14 +76,17 @@ pub record KeepsReplica (issuer : Setup) (shard : ℕ) (old_held held : Option (
   pub extended : GoesOn first.history history
   pub tail : List ℕ
   pub tail_is : IsTail (grounds_of issuer) shard history tail
+  pub tail_of : Follows tail
   pub bytes_are : IfSome store.bytes (IsImage (journal_text history) tail)
   pub doubted : MatchBool in_doubt (0 < store.faults) ((tail ≡ []) × (store.faults ≡ 0))
+  pub crash_now :
+      IfSome store.disk (λ disk. (image : List ℕ) → MayLeave disk.now image → IsImage (journal_text history) tail image)
   pub crash_since : IfSome store.disk (CrashSince (IsReplicaImage issuer shard old first.history history) held)
 
 -- the journal of each shard, of which the desk told by the name that the words give, was that of its first book and is
 -- that of its history
 pub record KeepReplicas (issuer : Setup) (prefix : List ℕ) (logs : Logged) (journals : SeenJournals) (first : List ShardBook)
-    (histories : List (List Entry)) (in_doubt : ℕ → Bool) : Type 0 where
+    (histories : List (List Entry)) (in_doubt : ℕ → Bool) (Follows : ℕ → List ℕ → Type 0) : Type 0 where
   pub olds_are : length journals.olds ≡ issuer.shards
   pub stores_are : length journals.stores ≡ issuer.shards
   pub first_are : length first ≡ issuer.shards
@@ -72,7 +95,7 @@ pub record KeepReplicas (issuer : Setup) (prefix : List ℕ) (logs : Logged) (jo
       → slice_get first shard ≡ Some was → slice_get histories shard ≡ Some history
       → slice_get journals.olds shard ≡ Some old → slice_get journals.stores shard ≡ Some store
       → KeepsReplica issuer shard (logs (old_name prefix shard)) (logs (journal_name prefix shard)) was history
-      (in_doubt shard) old store
+      (in_doubt shard) (Follows shard) old store
 
 -- the journals that the desk told of were those of these books
 pub record WereJournals (issuer : Setup) (prefix : List ℕ) (logs : Logged) (first : List ShardBook) : Type 0 where
@@ -82,13 +105,26 @@ pub record WereJournals (issuer : Setup) (prefix : List ℕ) (logs : Logged) (fi
       (logs (journal_name prefix shard)) old
       was
 
--- the journals were loaded for a standby, and are as loading left them
+-- the journals were loaded for a standby, and are as loading left them; no store failed
 pub record LoadsToStandBy (seen : Seen) : Type 0 where
   pub feed : List ℕ
   pub journal : List ℕ
   pub issuer : Setup
   pub set_up : IsStandingBy seen feed journal issuer
   pub stay : StayLoaded issuer journal seen.desk.logs seen.journals
+  pub counted : FailOnlyAt seen.journals.stores none_fails
+
+-- what is sure of the histories that a feed made: each entry is a record that is legal after those before it, under
+-- whatever decision table it was decided
+pub record AreLawfulReplicas (issuer : Setup) (histories : List (List Entry)) : Type 0 where
+  pub legal : AreLegal issuer histories
+  pub records : (shard : ℕ) (history : List Entry) → slice_get histories shard ≡ Some history → All IsRecord history
+  -- no counter of a card was decided twice
+  pub once : IsOncePerCounter histories
+  -- each card's commands went with replies in the order of its queue
+  pub in_order : (card : CardName) (shard : ℕ) → AreInOrder card (slice_index_or histories shard [])
+  -- every world of the issuer is safe, and one has these histories
+  pub worlds : HaveSafeWorlds issuer histories
 
 -- the feed was taken, up to this end: what it makes of the histories that were loaded is what the journals hold
 pub record StandsBy (followed : Followed) (seen : Seen) : Type 0 where
@@ -107,7 +143,10 @@ pub record StandsBy (followed : Followed) (seen : Seen) : Type 0 where
   pub lawful : IsLawful issuer first first
   pub histories : List (List Entry)
   pub takes : TakesFeed issuer (histories_of first) file read followed histories
-  pub kept : KeepReplicas issuer journal seen.desk.logs seen.journals first histories (in_doubt_after followed)
+  pub last_lawful : AreLawfulReplicas issuer histories
+  pub kept :
+      KeepReplicas issuer journal seen.desk.logs seen.journals first histories (in_doubt_after followed)
+      (MayFollow issuer (histories_of first) file read followed histories takes)
 
 -- ---- the ways to end
 

@@ -8,7 +8,7 @@ ghost use Rattle.desk_host.specs.SeenStores.{journals_seen};
 ghost use Rattle.line_serving.specs.Loaded.{AreLoadedFrom};
 ghost use Rattle.issuer_top.specs.Clearing.{FilesBooks, IsClearing};
 ghost use Rattle.issuer_top.specs.Endings.{Ends};
-ghost use Rattle.issuer_top.specs.ReadAgain.{StayLoaded, stop_of_reading};
+ghost use Rattle.issuer_top.specs.ReadAgain.{FailOnlyAt, StayLoaded, none_fails, stop_of_reading};
 ghost use Rattle.issuer_top.specs.Seen.{IsSameDesk, seen_by};
 
 use crate::ended::Ended;
@@ -136,6 +136,7 @@ impl<D: Desk> Run<D> {
             IsClearing seen name.now journal issuer
             → (stay : StayLoaded issuer journal (D.logs given)
             (journals_seen D.Journal.Store journals.olds.items journals.stores.items))
+            → FailOnlyAt (journals_seen D.Journal.Store journals.olds.items journals.stores.items).stores none_fails
             → FilesBooks issuer (journals_seen D.Journal.Store journals.olds.items journals.stores.items) stay.first
             check.book
             → IsSameDesk D.Desk given self.desk → Ends result.status seen }

@@ -10,6 +10,7 @@ mod filling;
 mod opening;
 mod pin;
 mod play;
+mod restart;
 mod run;
 mod show;
 mod standby;
@@ -18,4 +19,5 @@ mod top_call;
 
 pub use ended::Ended;
 pub use one_caller::every_image_loads_again;
+pub use restart::every_image_of_a_standby_loads_again;
 pub use top_call::issue;

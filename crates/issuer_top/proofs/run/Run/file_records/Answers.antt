@@ -1,7 +1,8 @@
 -- How a run ends whose journals are read again, and filed or not.
 use Rattle.std.proofs.Common.{refl}
-use Rattle.issuer_top.proofs.ClearingSteps.{files-books, stops-filing, ends_unchecked, ends_unfiled}
-use Rattle.issuer_top.proofs.ReadingSteps.{stay-loaded, stay-again}
+use Rattle.issuer_top.proofs.ClearingSteps.{fail-filing, files-books, stops-filing, ends_unchecked, ends_unfiled}
+use Rattle.issuer_top.specs.ReadAgain.{none_fails}
+use Rattle.issuer_top.proofs.ReadingSteps.{fail-read, stay-loaded, stay-again, stood-loaded}
 use Rattle.issuer_top.proofs.Statuses.{ends-as}
 use Rattle.issuer_top.proofs.run.Run.file_records.Goals as goal
 
@@ -10,7 +11,8 @@ returns-in-Err g c =
     let stopped = c.stop.ensures in
     rw stopped.2 (λ words given journal set_up loaded same.
     ends-as _ _ stopped.0 refl
-    (ends_unchecked _ _ journal _ set_up (stay-loaded g.D.Journal.Store _ _ _ _ _ loaded) _
+    (ends_unchecked _ _ journal _ set_up (stay-loaded g.D.Journal.Store _ _ _ _ _ loaded)
+    (stood-loaded g.D.Journal.Store _ _ _ _ _ loaded) _
     (record { config_is = refl; requests_is = refl; desk_stood = same.faults_are }) stopped.1))
 
 pub returns-in-Ok-file_journals : goal.returns-in-Ok-file_journals
@@ -19,6 +21,7 @@ returns-in-Ok-file_journals g c = λ words given journal set_up loaded same.
     let again = c.in-Ok-file_journals.ensures in
     c.check_lines.ensures words given journal set_up
     (stay-again g.D.Journal.Store _ _ _ _ _ loaded _ again.only_read)
+    (fail-read g.D.Journal.Store _ _ _ _ _ loaded _ again.only_read none_fails again.count)
     (files-books g.D.Journal.Store _ _ _ _ _ loaded _ again.only_read _ again.filed)
     same
 
@@ -30,7 +33,8 @@ returns-in-Err-file_journals g c =
     rw stopped.2 (λ words given journal set_up loaded same.
     ends-as _ _ stopped.0 refl
     (ends_unfiled _ _ journal _ set_up (stay-again g.D.Journal.Store _ _ _ _ _ loaded _ again.only_read) none.fault
-    none.shard _
+    none.shard
+    (fail-filing g.D.Journal.Store _ _ _ _ _ loaded _ again.only_read none.shard none.fault again.count) _
     (record { config_is = refl; requests_is = refl; desk_stood = same.faults_are })
     (stops-filing g.D.Journal.Store _ _ _ _ _ loaded _ again.only_read none.shard again.exact.0 none.fault again.exact.1
     again.count)

@@ -7,7 +7,7 @@ use Rattle.desk_host.proofs.LoadedLaws.{lawful-loaded}
 use Rattle.issuer_top.specs.Opening.{GivesInput}
 use Rattle.issuer_top.proofs.EndingSteps.{gives_input}
 use Rattle.issuer_top.proofs.StandingSteps.{ends_following, ends_no_feed, ends_unfollowed, ready-hold, ready-stay}
-use Rattle.issuer_top.proofs.StandingSteps.{took-feed}
+use Rattle.issuer_top.proofs.StandingSteps.{ready-stood, took-feed}
 use Rattle.issuer_top.proofs.Statuses.{ends-as}
 use Rattle.issuer_top.proofs.run.Run.follow_feed.Goals as goal
 
@@ -18,7 +18,8 @@ returns-in-Err g c =
     rw stopped.2 (λ words given journal set_up ready same.
     ends-as _ _ stopped.0 refl
     (ends_unfollowed _ _ journal _ set_up
-    (ready-stay _ journal (g.D.Desk.logs given) _ _ ready c.requires.sound told _ c.take_stores-stores.ensures.stores) _
+    (ready-stay _ journal (g.D.Desk.logs given) _ _ ready c.requires.sound told _ c.take_stores-stores.ensures.stores)
+    (ready-stood _ journal (g.D.Desk.logs given) _ _ ready c.requires.sound told _ c.take_stores-stores.ensures.stores) _
     (record { config_is = refl; requests_is = refl; desk_stood = same.faults_are }) stopped.1))
 
 pub returns-in-Err-read : goal.returns-in-Err-read
@@ -29,6 +30,8 @@ returns-in-Err-read g c =
     ends-as _ _ stopped.0 refl
     (ends_no_feed _ _ journal _ set_up
     (ready-stay _ journal (g.D.Desk.logs given) _ _ ready c.requires.sound told _
+    c.take_stores-stores-in-Err-read.ensures.stores)
+    (ready-stood _ journal (g.D.Desk.logs given) _ _ ready c.requires.sound told _
     c.take_stores-stores-in-Err-read.ensures.stores)
     (Unit {0}) _ _ c.in-Err-read.fault _ refl refl same.faults_are
     c.in-Err-read.ensures.count c.in-Err-read.ensures.last (rw c.stop_of.ensures at stopped.1)))
@@ -53,6 +56,6 @@ returns g c =
     first.books (lawful-loaded issuer journal logs olds shards ready c.requires.shards c.requires.sound)
     _ it.0 _ _ _ _
     (took-feed issuer journal logs olds shards ready told _ _ c.new-node.ensures.shards _ c.follow-followed.ensures.kept
-    _ _ it.0 it.1 _ (c.take_stores-stores-2.ensures.stores ∙ ap (map store_in) c.promote.ensures))
+    c.requires.sound _ _ it.0 it.1 _ (c.take_stores-stores-2.ensures.stores ∙ ap (map store_in) c.promote.ensures))
     it.2 c.follow-followed.ensures.sink_count c.in-Ok-read.ensures.new
     c.follow-followed.ensures.source_count c.end_following-ending.ensures))

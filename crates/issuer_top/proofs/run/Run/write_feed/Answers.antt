@@ -1,7 +1,7 @@
 -- How a run ends whose journals are read again, and written as a feed or not.
 use Rattle.std.proofs.Common.{refl}
 use Rattle.issuer_top.proofs.ExportingSteps.{feeds-by, ends_exporting, ends_unexported}
-use Rattle.issuer_top.proofs.ReadingSteps.{stay-loaded, stay-again}
+use Rattle.issuer_top.proofs.ReadingSteps.{stay-loaded, stay-again, stood-loaded}
 use Rattle.issuer_top.proofs.Statuses.{ends-as}
 use Rattle.issuer_top.proofs.run.Run.write_feed.Goals as goal
 
@@ -11,7 +11,8 @@ returns-in-Err g c =
     rw stopped.2 (λ words given journal set_up loaded same.
     ends-as _ _ stopped.0 refl
     (ends_unexported _ journal _ set_up (stay-loaded g.D.Journal.Store _ _ _ _ _ loaded)
-    (record { config_is = refl; requests_is = refl; desk_stood = same.faults_are }) _ stopped.1))
+    (record { config_is = refl; requests_is = refl; desk_stood = same.faults_are })
+    (stood-loaded g.D.Journal.Store _ _ _ _ _ loaded) _ stopped.1))
 
 pub returns : goal.returns
 unfolding stay-again
