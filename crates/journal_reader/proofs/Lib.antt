@@ -7,3 +7,8 @@ pub mod FiledStores
 pub mod Exported
 pub mod FilingStops
 pub mod ExportedStores
+pub mod Members
+pub mod Marks
+pub mod Approvals
+pub mod Verdicts
+pub mod Totals

@@ -2,3 +2,4 @@
 pub mod Reading
 pub mod Filing
 pub mod Exporting
+pub mod Accounts
