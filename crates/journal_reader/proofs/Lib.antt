@@ -12,3 +12,4 @@ pub mod Marks
 pub mod Approvals
 pub mod Verdicts
 pub mod Totals
+pub mod Feeding

@@ -3,3 +3,4 @@ pub mod Reading
 pub mod Filing
 pub mod Exporting
 pub mod Accounts
+pub mod Copies
