@@ -11,3 +11,5 @@ pub mod LoadingSteps
 pub mod LoadedLaws
 pub mod ShowSteps
 pub mod Joined
+pub mod OwnRecords
+pub mod OneAnswer

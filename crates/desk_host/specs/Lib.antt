@@ -9,3 +9,4 @@ pub mod Left
 pub mod Loading
 pub mod Shown
 pub mod CardText
+pub mod Isolation
