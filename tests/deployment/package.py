@@ -4,8 +4,6 @@ import json
 import os
 import shutil
 import tempfile
-from collections.abc import Iterator
-from contextlib import contextmanager
 
 from checks import Check, Tally, check_of
 from deployment.running import Ran, fails, run, run_tool
@@ -24,106 +22,104 @@ LICENCE = "/usr/share/common-licenses/Apache-2.0"
 
 
 class Package:
-    """A package of the program, made and unpacked in a folder. The record of its proof is a trial's."""
+    """A package of a program, made and unpacked in a folder. The record of its proof is a trial's."""
 
-    def __init__(self, tally: Tally, folder: str) -> None:
-        self.tally = tally
-        self.folder = folder
-        self.root = f"{folder}/root"
-        os.mkdir(f"{folder}/built")
-        shutil.copyfile(tally.program, f"{folder}/built/issuer")
-
-    def make(self) -> Ran:
-        words = ["--from", f"{self.folder}/built", "--to", self.folder]
-        return run(self.tally, "make-deb", *words, env=os.environ | ENVIRONMENT)
+    def __init__(self, program: str) -> None:
+        self.room = tempfile.TemporaryDirectory()
+        self.folder = self.room.name
+        self.root = f"{self.folder}/root"
+        os.mkdir(f"{self.folder}/built")
+        shutil.copyfile(program, f"{self.folder}/built/issuer")
 
     def write_record(self) -> None:
-        record = {"program": sum_of(self.tally.program), "sources": {}, "kit": "a trial"}
+        record = {"program": sum_of(f"{self.folder}/built/issuer"), "sources": {}, "kit": "a trial"}
         write_text(self.folder, "built/issuer.proved", json.dumps(record))
 
-    def made(self) -> str:
+    def make(self, tally: Tally) -> Ran:
+        words = ["--from", f"{self.folder}/built", "--to", self.folder]
+        return run(tally, "make-deb", *words, env=os.environ | ENVIRONMENT)
+
+    def made(self, tally: Tally) -> str:
         """Makes the package, and returns its path."""
-        self.write_record()
-        ran = self.make()
+        ran = self.make(tally)
         if ran.returncode:
             raise ValueError(f"no package was made: {ran}")
         return ran.stdout.strip()
-
-    def unpacked(self) -> "Package":
-        """Makes the package, and unpacks it."""
-        run_tool(self.tally, "dpkg-deb", "-x", self.made(), self.root).check_returncode()
-        return self
 
     def path(self, name: str) -> str:
         return os.path.join(self.root, name)
 
 
-@contextmanager
-def new_package(tally: Tally) -> Iterator[Package]:
-    with tempfile.TemporaryDirectory() as folder:
-        yield Package(tally, folder)
+# The package of each program, which all checks look at that change nothing in it, and its path.
+MADE: dict[str, tuple[Package, str]] = {}
+
+
+def made_once(tally: Tally) -> tuple[Package, str]:
+    """The package of the program, made and unpacked by the first check that looks at it, and its path."""
+    if tally.program not in MADE:
+        package = Package(tally.program)
+        package.write_record()
+        path = package.made(tally)
+        run_tool(tally, "dpkg-deb", "-x", path, package.root).check_returncode()
+        MADE[tally.program] = package, path
+    return MADE[tally.program]
 
 
 def refuses_an_unproved_program(tally: Tally) -> None:
     """No package is made of a program without the record of its proof."""
-    with new_package(tally) as package:
-        fails(tally, package.make(), "a program without its record", "./issuer prove")
+    fails(tally, Package(tally.program).make(tally), "a program without its record", "./issuer prove")
 
 
 def has_the_same_bytes(tally: Tally) -> None:
     """A package is made twice with the same bytes, and its name has the version."""
-    with new_package(tally) as package:
-        path = package.made()
-        first = sum_of(path)
-        tally.expect(sum_of(package.made()), first, "the package's sum the second time")
-        number = content_of(f"{HOME}/VERSION").strip().replace("-", "~")
-        tally.expect(os.path.basename(path), f"issuer_{number}_amd64.deb", "the package's name")
+    package, path = made_once(tally)
+    first = sum_of(path)
+    tally.expect(sum_of(package.made(tally)), first, "the package's sum the second time")
+    number = content_of(f"{HOME}/VERSION").strip().replace("-", "~")
+    tally.expect(os.path.basename(path), f"issuer_{number}_amd64.deb", "the package's name")
 
 
 def has_version_and_licence(tally: Tally) -> None:
     """An installed copy has the VERSION of the sources, and the licence."""
-    with new_package(tally) as package:
-        package.unpacked()
-        installed = content_of(package.path(f"{PRIVATE}/VERSION"))
-        tally.expect(installed, content_of(f"{HOME}/VERSION"), "the package's VERSION")
-        text = content_of(package.path("usr/share/doc/issuer/copyright"))
-        tally.holds("License: Apache-2.0\n" in text and LICENCE in text, f"the licence: {text!r}")
+    package = made_once(tally)[0]
+    installed = content_of(package.path(f"{PRIVATE}/VERSION"))
+    tally.expect(installed, content_of(f"{HOME}/VERSION"), "the package's VERSION")
+    text = content_of(package.path("usr/share/doc/issuer/copyright"))
+    tally.holds("License: Apache-2.0\n" in text and LICENCE in text, f"the licence: {text!r}")
 
 
 def runs_the_packaged_program(tally: Tally) -> None:
     """The launcher of an installed copy runs the program."""
-    with new_package(tally) as package:
-        launcher = package.unpacked().path(f"{PRIVATE}/issuer")
-        words = ("--never-build", "world", "--cards", "2", "--steps", "9", "--seed", "1")
-        ran = run_tool(tally, launcher, *words)
-        tally.expect((ran.returncode, len(ran.stdout.splitlines())), (0, 11), f"a world, with {ran.stderr!r}")
+    package = made_once(tally)[0]
+    launcher = package.path(f"{PRIVATE}/issuer")
+    words = ("--never-build", "world", "--cards", "2", "--steps", "9", "--seed", "1")
+    ran = run_tool(tally, launcher, *words)
+    tally.expect((ran.returncode, len(ran.stdout.splitlines())), (0, 11), f"a world, with {ran.stderr!r}")
 
 
 def has_its_commands(tally: Tally) -> None:
     """Each command of an installed copy leads to a file that runs, and the gateway finds its dialects."""
-    with new_package(tally) as package:
-        package.unpacked()
-        commands = glob.glob(package.path("usr/bin/*"))
-        tally.holds(commands, "the package has no command")
-        for path in commands:
-            tally.holds(os.path.exists(path) and os.access(path, os.X_OK), f"{path} leads nowhere")
-        ran = run_tool(tally, package.path("usr/bin/issuer-gateway"), "--listen", "0=none")
-        tally.expect(ran.returncode, Status.USAGE, "the status of the packaged gateway without a dialect's name")
-        tally.holds("shipped are 1987-ascii, 1993-packed" in ran.stderr, f"the packaged gateway: {ran.stderr!r}")
+    package = made_once(tally)[0]
+    commands = glob.glob(package.path("usr/bin/*"))
+    tally.holds(commands, "the package has no command")
+    for path in commands:
+        tally.holds(os.path.exists(path) and os.access(path, os.X_OK), f"{path} leads nowhere")
+    ran = run_tool(tally, package.path("usr/bin/issuer-gateway"), "--listen", "0=none")
+    tally.expect(ran.returncode, Status.USAGE, "the status of the packaged gateway without a dialect's name")
+    tally.holds("shipped are 1987-ascii, 1993-packed" in ran.stderr, f"the packaged gateway: {ran.stderr!r}")
 
 
 def has_no_part_that_builds(tally: Tally) -> None:
     """An installed copy has no module that builds, proves, tries or packages, and the launcher refuses to."""
-    with new_package(tally) as package:
-        package.unpacked()
-        found = {name for _, folders, _ in os.walk(package.root) for name in folders}
-        tally.expect(sorted(found & set(NOT_SHIPPED)), [], "folders that aren't shipped")
-        modules = [name for _, _, names in os.walk(package.path(PRIVATE)) for name in names if name.endswith(".py")]
-        tally.holds("__init__.py" in modules, f"the package has the modules {modules}")
-        for word in ("prove", "test"):
-            ran = run_tool(tally, package.path(f"{PRIVATE}/issuer"), word)
-            is_refused = ran.returncode == Status.NO_PROGRAM and "there are no sources here" in ran.stderr
-            tally.holds(is_refused, f"`{word}` of an installed copy: status {ran.returncode}, {ran.stderr!r}")
+    package = made_once(tally)[0]
+    found = {name for _, folders, _ in os.walk(package.root) for name in folders}
+    tally.expect(sorted(found & set(NOT_SHIPPED)), [], "folders that aren't shipped")
+    modules = [name for _, _, names in os.walk(package.path(PRIVATE)) for name in names if name.endswith(".py")]
+    tally.holds("__init__.py" in modules, f"the package has the modules {modules}")
+    for word in ("prove", "test"):
+        ran = run_tool(tally, package.path(f"{PRIVATE}/issuer"), word)
+        is_refused = ran.returncode == Status.NO_PROGRAM and "there are no sources here" in ran.stderr
+        tally.holds(is_refused, f"`{word}` of an installed copy: status {ran.returncode}, {ran.stderr!r}")
 
 
 def lintian_is_content(tally: Tally) -> None:
@@ -131,10 +127,9 @@ def lintian_is_content(tally: Tally) -> None:
     if not shutil.which("lintian"):
         print("left out: lintian, which isn't installed")
         return
-    with new_package(tally) as package:
-        path = package.made()
-        ran = run_tool(tally, "lintian", "--allow-root", "--fail-on", "error,warning", path)
-        tally.holds(ran.returncode == 0, f"lintian: {ran.stdout!r} {ran.stderr!r}")
+    path = made_once(tally)[1]
+    ran = run_tool(tally, "lintian", "--allow-root", "--fail-on", "error,warning", path)
+    tally.holds(ran.returncode == 0, f"lintian: {ran.stdout!r} {ran.stderr!r}")
 
 
 def needs_dpkg(check: Check) -> Check:
