@@ -29,7 +29,7 @@ class PipedBridge:
         self.journal = os.path.join(room, "journal")
         self.socket = os.path.join(room, "orders")
         self.log = os.path.join(room, "log")
-        with open(self.config, "w", encoding="utf-8") as text:
+        with open(os.open(self.config, os.O_CREAT | os.O_WRONLY, 0o600), "w", encoding="utf-8") as text:
             json.dump(configuration, text)
         self.process: "Optional[subprocess.Popen[str]]" = None
         self.said: "queue.Queue[dict[str, Any]]" = queue.Queue()
