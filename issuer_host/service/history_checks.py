@@ -3,6 +3,7 @@ import errno
 import fcntl
 import os
 import time
+from collections.abc import Sequence
 from typing import Optional
 
 from issuer_host.journals import journal_path, old_journal_path
@@ -10,6 +11,7 @@ from issuer_host.service.journal_checks import bytes_of
 from issuer_host.service.refusal import tell
 from issuer_host.run_mark import RunMark, lock_mark, mark_path
 from issuer_host.service.seals import check_sealed
+from issuer_host.service.side_by_side import do_all
 
 NAME = "issuer-run"
 # The commands that add records.
@@ -17,6 +19,8 @@ APPENDING = ("serve", "standby")
 # How long another start may check the journals, and how often it is looked for.
 MOST_SECONDS = 600.0
 LOOK_SECONDS = 0.05
+# So many bytes of journals are checked in a fraction of a second.
+SMALL_BYTES = 1 << 24
 
 
 def check_history(command: str, name: str, shards: int, accepts: bool) -> None:
@@ -27,14 +31,25 @@ def check_history(command: str, name: str, shards: int, accepts: bool) -> None:
     mark = mark_of(name, shards)
     if mark is None:
         return
-    sizes = mark.sizes()
-    for shard in range(shards):
-        check_journal(journal_path(name, shard), None if accepts else sizes.get(shard), accepts)
+    sizes = {} if accepts else mark.sizes()
+    paths = {journal_path(name, shard): sizes.get(shard) for shard in range(shards)}
+
+    def check(path: str) -> None:
+        check_journal(path, paths[path], accepts)
+
+    do_all(list(paths), check, processes_for(list(paths)))
     if command in APPENDING or any(bytes_of(old_journal_path(name, shard)) for shard in range(shards)):
         mark.may_append()
     else:
         mark.has_ended()
     mark.hand_over()
+
+
+def processes_for(paths: Sequence[str]) -> int:
+    """Returns how many processes check journals: one, if there is little to check."""
+    if sum(map(bytes_of, paths)) < SMALL_BYTES:
+        return 1
+    return min(len(paths), len(os.sched_getaffinity(0)))
 
 
 def check_journal(path: str, size: Optional[int], accepts: bool) -> None:
