@@ -15,7 +15,15 @@ from issuer_host.gateway.traffic import Question, Traffic
 from issuer_host.journals import journals_of
 from issuer_host.paths import HOME
 from issuer_host.service.host import Host
-from issuer_host.service.hosting import FIRST_DELAY, LAST_DELAY, LOAD_SECONDS, SILENT_SECONDS
+from issuer_host.service.hosting import (
+    FIRST_DELAY,
+    LAST_DELAY,
+    LOAD_BYTES,
+    LOAD_SECONDS,
+    SILENT_SECONDS,
+    bytes_of,
+)
+from issuer_host.service.sealing import Sealing
 from issuer_host.statuses import NOT_AGAIN, Status, meaning_of
 
 CAREFUL_START = os.path.join(HOME, "deploy", "issuer-run")
@@ -80,6 +88,9 @@ class PipeHost:
         # The journals' inodes as the first run left them: no run may go on over other files.
         self.inodes: object = None
         self.began = self.heard = self.delay = 0.0
+        self.sealing = Sealing(journal, "gateway")
+        # How long a run may be silent while it loads its journals.
+        self.load_seconds = LOAD_SECONDS
         self.is_ready = self.is_flushing = self.is_stopping = False
         # The status of a run that a person has to see to, until another one is ready.
         self.refusal: Optional[int] = None
@@ -105,6 +116,8 @@ class PipeHost:
             self.was_tried()
             self.loop.call_later(LAST_DELAY, self.start_again)
             return
+        self.sealing = Sealing(self.journal, "gateway")
+        self.load_seconds = LOAD_SECONDS + bytes_of(self.journal) / LOAD_BYTES
         self.figures.count("host_starts", ("partition", str(self.partition)))
         self.give(self.run, None, PROBE)
         self.flush()
@@ -149,6 +162,7 @@ class PipeHost:
             tell(f"partition {self.partition}: the host gave more answers than it got lines, and is killed")
             self.kill()
             return
+        self.sealing.answer(text)
         question = self.given.popleft()
         if question is not None:
             self.traffic.answered(question, text)
@@ -172,6 +186,8 @@ class PipeHost:
 
     def run_ended(self, status: int, stop_line: str) -> None:
         self.run = None
+        self.sealing.look()
+        self.sealing.end()
         self.figures.host_up[self.partition] = 0
         self.figures.count("host_ends", ("partition", str(self.partition)), ("status", str(status)))
         if status:
@@ -222,12 +238,13 @@ class PipeHost:
         now = self.loop.time()
         if self.run is None:
             return
+        self.sealing.look()
         if self.is_ready and self.inodes != self.inodes_now():
             self.refuse_others()
             self.kill()
         elif not self.given:
             self.heard = now
-        elif now - self.heard > (SILENT_SECONDS if self.is_ready else LOAD_SECONDS):
+        elif now - self.heard > (SILENT_SECONDS if self.is_ready else self.load_seconds):
             tell(f"partition {self.partition}: the host has been silent for too long, and is killed")
             self.heard = now
             self.kill()

@@ -1,7 +1,7 @@
 """Seals: a running hash beside each journal, a line for each record, by which a start finds a journal that was changed.
 
 A seal is the beginning of SHA-256 of the seal before and the record's line. The file `JOURNAL.seals` has them in the
-records' order. A bridge, or a follower, writes a seal once its record is durable, and a careful start those that are
+records' order. Bridge, gateway or follower write a seal once its record is durable, and a careful start those that are
 missing; the program never reads or writes them. Who can write the seals too can seal anything: they have no key.
 """
 import contextlib
