@@ -5,6 +5,11 @@
  * WATCH_FAULTS  faults, each ended by a semicolon: CALL CLASS FIRST STEP COUNT WHAT. Of the calls of this name on files
  *               of this class (any: of each), counted from 1, the one of number FIRST fails, and every STEP-th after it,
  *               COUNT times in all (0: for ever). WHAT is an error's number; or -1: the call takes half of its bytes
+ * WATCH_LIES    lies, each ended by a semicolon: KIND CALL CLASS AFTER FIRST. Of the calls of this name on files of this
+ *               class, that follow a call of the name AFTER on their file (any: any call), those of number FIRST and on
+ *               are told wrongly, as if the program didn't look. By `unmade` the call isn't made or logged, and succeeds;
+ *               by `forgiven` one that fails succeeds; by `whole` one that took fewer bytes took all; by `hard` one that
+ *               is to be made again fails for good
  * WATCH_KILL    the number, from 1, of the watched call before which the program is killed
  *
  * A line has ten words: the call's number, the thread, the call, the class of its file, the descriptor, the result, the
@@ -42,9 +47,22 @@ struct fault {
     long seen, made;
 };
 
+struct lie {
+    char kind[16];
+    char call[16];
+    char class[16];
+    char after[16];
+    long first;
+    long seen;
+};
+
 static pthread_mutex_t lock = PTHREAD_MUTEX_INITIALIZER;
 static struct fault faults[MAX_FAULTS];
 static int fault_count;
+static struct lie lies[MAX_FAULTS];
+static int lie_count;
+/* The last call on each descriptor. */
+static const char *last_calls[MAX_FILES];
 static enum class classes[MAX_FILES];
 static int log_file = -1;
 static long calls, kill_at;
@@ -82,6 +100,14 @@ static void read_faults(const char *text) {
     }
 }
 
+static void read_lies(const char *text) {
+    for (const char *at = text; at && *at && lie_count < MAX_FAULTS; at = strchr(at, ';') + 1) {
+        struct lie *it = &lies[lie_count++];
+        int got = sscanf(at, "%15s %15s %15s %15s %ld", it->kind, it->call, it->class, it->after, &it->first);
+        if (got != 5 || !strchr(at, ';')) abort();
+    }
+}
+
 __attribute__((constructor)) static void begin(void) {
     NEXT(open_type, open);
     NEXT(close_type, close);
@@ -93,6 +119,7 @@ __attribute__((constructor)) static void begin(void) {
     if (log_file < 0) abort();
     next_close(opened);
     read_faults(getenv("WATCH_FAULTS"));
+    read_lies(getenv("WATCH_LIES"));
     if (getenv("WATCH_KILL")) kill_at = atol(getenv("WATCH_KILL"));
     classes[STDOUT_FILENO] = OUTPUT;
 }
@@ -107,6 +134,21 @@ static enum class class_of_path(const char *path) {
     if (stat(path, &found) == 0 && S_ISDIR(found.st_mode)) return FOLDER;
     if (strncmp(slash ? slash + 1 : path, "journal", 7) == 0) return JOURNAL;
     return strncmp(path, "/dev/", 5) == 0 && strcmp(path, "/dev/stdin") != 0 ? OTHER : INPUT;
+}
+
+/* Whether a call is told wrongly in this way. */
+static int is_told(const char *kind, const char *call, enum class class, int file) {
+    int is_told = 0;
+    for (int i = 0; i < lie_count; i++) {
+        struct lie *it = &lies[i];
+        if (strcmp(it->kind, kind) != 0 || strcmp(it->call, call) != 0) continue;
+        if (strcmp(it->class, class_names[class]) != 0) continue;
+        const char *last = file >= 0 && file < MAX_FILES ? last_calls[file] : 0;
+        if (strcmp(it->after, "any") != 0 && (!last || strcmp(it->after, last) != 0)) continue;
+        it->seen += 1;
+        is_told |= it->seen >= it->first;
+    }
+    return is_told;
 }
 
 /* Begins a call: takes the lock, and kills the program if this is the call to do so at. Returns the fault to make, or
@@ -154,11 +196,29 @@ static void log_call(const char *call, enum class class, int file, long result, 
     }
 }
 
+/* Ends a call that isn't made, and succeeds. */
+static long end_unmade(long result) {
+    calls -= 1;
+    pthread_mutex_unlock(&lock);
+    return result;
+}
+
+/* What the program is told of a call that was asked for so many bytes. */
+static long told(const char *call, enum class class, int file, long result, int *error, long count) {
+    int is_again = *error == EINTR || *error == EAGAIN;
+    if (result < 0 && is_told("forgiven", call, class, file)) return 0;
+    if (result >= 0 && result < count && is_told("whole", call, class, file)) return count;
+    if (result < 0 && is_again && is_told("hard", call, class, file)) *error = EIO;
+    return result;
+}
+
 /* Ends a call that was begun: logs it, gives the lock back, and sets the error as it was. */
 static long end_call(const char *call, enum class class, int file, long result, long a, long b, const char *path,
                      const void *bytes) {
     int error = result < 0 ? errno : 0;
     log_call(call, class, file, result, error, a, b, path, bytes, bytes ? result : 0);
+    if (lie_count) result = told(call, class, file, result, &error, bytes ? b : 0);
+    if (file >= 0 && file < MAX_FILES) last_calls[file] = call;
     pthread_mutex_unlock(&lock);
     if (result < 0) errno = error;
     return result;
@@ -221,6 +281,7 @@ int flock(int file, int how) {
     NEXT(flock_type, flock);
     if (log_file < 0) return next_flock(file, how);
     long fault = begin_call("flock", class_of(file));
+    if (is_told("unmade", "flock", class_of(file), file)) return end_unmade(0);
     int result = fault > 0 ? fail(fault) : next_flock(file, how);
     return (int)end_call("flock", class_of(file), file, result, how, 0, 0, 0);
 }
@@ -245,6 +306,7 @@ int fchmod(int file, mode_t mode) {
 static int sync_watched(const char *call, sync_type next_sync, int file) {
     if (log_file < 0) return next_sync(file);
     long fault = begin_call(call, class_of(file));
+    if (is_told("unmade", call, class_of(file), file)) return end_unmade(0);
     int result = fault > 0 ? fail(fault) : next_sync(file);
     return (int)end_call(call, class_of(file), file, result, 0, 0, 0, 0);
 }
@@ -264,7 +326,9 @@ ssize_t read(int file, void *into, size_t count) {
     NEXT(read_type, read);
     if (log_file < 0 || class_of(file) == OTHER) return next_read(file, into, count);
     long fault = begin_call("read", class_of(file));
+    int is_end = fault > 0 && is_told("forgiven", "read", class_of(file), file);
     end_call("read", class_of(file), file, 0, count, fault, 0, 0);
+    if (is_end) return 0;
     return fault > 0 ? fail(fault) : next_read(file, into, fault == SHORT ? half(count) : count);
 }
 
@@ -307,6 +371,7 @@ ssize_t pwrite(int file, const void *from, size_t count, off_t at) {
     NEXT(pwrite_type, pwrite);
     if (log_file < 0) return next_pwrite(file, from, count, at);
     long fault = begin_call("pwrite", class_of(file));
+    if (is_told("unmade", "pwrite", class_of(file), file)) return end_unmade(count);
     ssize_t result = fault > 0 ? fail(fault) : next_pwrite(file, from, fault == SHORT ? half(count) : count, at);
     return end_call("pwrite", class_of(file), file, result, at, count, 0, from);
 }

@@ -44,6 +44,21 @@ class Fault(NamedTuple):
         return f"the {self.call} of number {self.first} on a file of class {self.file_class}{often} {error}"
 
 
+class Lie(NamedTuple):
+    """Calls that the library tells wrongly, as if the program didn't look: `watch.c` says how."""
+
+    kind: str
+    call: str
+    file_class: str
+    # The call before it on the same file.
+    after: str = ANY
+    # From this one on.
+    first: int = 1
+
+    def __str__(self) -> str:
+        return " ".join(map(str, self[:]))
+
+
 class Call(NamedTuple):
     """A call that the program made."""
 
@@ -112,6 +127,7 @@ class Watch:
     def __init__(self, program: str, folder: str) -> None:
         self.program = program
         self.folder = folder
+        self.lies: Sequence[Lie] = ()
         self.log = os.path.join(folder, "log")
 
     @functools.cached_property
@@ -135,6 +151,7 @@ class Watch:
             os.remove(self.log)
         more = {"LD_PRELOAD": self.library, "WATCH_LOG": self.log, "WATCH_KILL": str(kill_at)}
         more["WATCH_FAULTS"] = "".join(f"{fault};" for fault in faults)
+        more["WATCH_LIES"] = "".join(f"{lie};" for lie in self.lies)
         command = [program or self.program, *words]
         status, written = self.converse(folder, command, groups, {**os.environ, **more}, None)
         return Run(words, status, written, calls_of(self.log))
