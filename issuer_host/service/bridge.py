@@ -1,7 +1,7 @@
 """Takes requests from a partition's queue, puts them to the partition's host, and sends the answers back.
 
 usage: bridge --partition N --config FILE --journal NAME [--callers N] [--window N] [--broker-file FILE]
-              [--orders SOCKET] [--figures PORT] [--program PATH]
+              [--orders SOCKET] [--second] [--figures PORT] [--program PATH]
 
 Run two for each partition: the broker delivers to one of them, and to the other as soon as the first is gone. The host
 is started by issuer-run. It ends if the connection is lost or this process ends, so that its lock on the journals goes
@@ -18,6 +18,7 @@ letters.
 --window       unacknowledged requests at a time (64)
 --broker-file  a file with the broker's URL; the broker of this machine if it is left out
 --orders       the path of a socket at which it takes orders (deploy/order --socket); none if it is left out
+--second       another bridge is the partition's first one: this one starts no host before a request or an order comes
 --figures      the port of Prometheus' figures on the loopback, to which the partition is added; none if it is 0 (0)
 
 It ends with 0 at SIGTERM, and with the host's status if a new start would end in the same way: 2, 6, 70 and 78. With
@@ -64,6 +65,7 @@ class Options(NamedTuple):
     window: int
     broker_file: Optional[str]
     orders: Optional[str]
+    second: bool
     figures: int
     program: Optional[str]
 
@@ -77,6 +79,7 @@ def options_of(words: Sequence[str]) -> Options:
     parser.add_argument("--window", type=int, default=64)
     parser.add_argument("--broker-file")
     parser.add_argument("--orders")
+    parser.add_argument("--second", action="store_true")
     parser.add_argument("--figures", type=int, default=0)
     parser.add_argument("--program")
     parser.error = refuse_words  # type: ignore[assignment]
@@ -115,8 +118,8 @@ class Bridge:
         self.serving = Serving(self.loop, command, options.journal, self.figures, options.orders or "", outside)
         self.readiness = Readiness(NAME)
         self.is_stopping = False
-        # Whether another bridge consumed before this one.
-        self.is_second = False
+        # Whether another bridge is the first one, or consumed before this one.
+        self.is_second = options.second
         self.consumer = ""
         self.told = ""
 
@@ -137,7 +140,7 @@ class Bridge:
 
         def find(then: Callback) -> None:
             def found(frame: Any) -> None:
-                self.is_second = frame.method.consumer_count > 0
+                self.is_second = self.options.second or frame.method.consumer_count > 0
                 then(frame)
 
             channel.queue_declare(broker.queue_of(self.options.partition), passive=True, callback=found)

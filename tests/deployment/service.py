@@ -55,7 +55,7 @@ def knows_no_card_of_other_lines(tally: Tally) -> None:
 def standby_has_other_ports(tally: Tally) -> None:
     """The standby's unit differs from the host's, and has ports of its own for its figures."""
     host, standby = unit_of(UNITS[0]), unit_of(UNITS[1])
-    tally.expect(standby.count("--figures 20000"), 1, "the ports of the standby's figures in its unit")
+    tally.expect(standby.count("--second --figures 20000"), 1, "the standby's word and ports in its unit")
     tally.holds(host != standby, "the standby's unit is the host's")
 
 

@@ -84,10 +84,10 @@ def of_last_commit(form: str, variables: Sequence[str]) -> list[str]:
 
 
 def standby_of(unit: str) -> str:
-    """Returns the unit of a partition's second bridge: another name, and other ports for its figures."""
+    """Returns the unit of a partition's second bridge: another name, its word, and other ports for its figures."""
     name = "Description=Authorisation host of"
     found = unit.replace(name, "Description=Standby of the authorisation host of")
-    return found.replace("--figures 10000", "--figures 20000")
+    return found.replace("--figures 10000", "--second --figures 20000")
 
 
 def add_program(tree: Tree, built: str) -> None:

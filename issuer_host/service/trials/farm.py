@@ -81,7 +81,7 @@ class Farm:
         command += ["--journal", journal, "--callers", str(CALLERS)]
         by_name = command_before(self.room)
         for number, path in enumerate(self.sockets(partition)):
-            begun = [*command, "--orders", path, "--broker-file"]
+            begun = [*command, "--orders", path, *["--second"] * (number > 0), "--broker-file"]
             if number and by_name:
                 words = [*by_name, *begun, url_file_of(self.room, self.broker.port)]
                 self.bridges.append(ManagedBridge(self.room, partition, number, words, without_inet6))

@@ -62,7 +62,8 @@ class Site:
     ) -> None:
         """Starts so many bridges, with more words, by another command, or with something done in each child."""
         for number in range(len(self.bridges), len(self.bridges) + count):
-            bridge = ManagedBridge(self.room, self.partition, number, [*begin, *self.command(*words)], child)
+            second = ["--second"] * (number > 0)
+            bridge = ManagedBridge(self.room, self.partition, number, [*begin, *self.command(*words, *second)], child)
             bridge.start()
             self.bridges.append(bridge)
         if len(self.bridges) == count:
