@@ -158,14 +158,17 @@ class Bridge:
 
     def lost(self, reason: Exception) -> None:
         """All that isn't acknowledged is delivered again, here or elsewhere. The host ends, and answers nobody."""
-        if self.consumer:
+        was_connected = bool(self.consumer)
+        if was_connected:
             self.figures.losses.inc()
         if self.consumer or str(reason) != self.told:
             tell(NAME, f"{'the connection is lost' if self.consumer else 'no connection'}: {reason!r}")
         self.consumer = ""
         self.told = str(reason)
-        self.flight.clear()
-        self.serving.abandon()
+        if was_connected:
+            # (orders go on while the broker is tried again and again)
+            self.flight.clear()
+            self.serving.abandon()
 
     def take(self, _: Channel, delivery: Delivery, properties: Properties, body: bytes) -> None:
         entry = Entry(delivery, properties, body)
