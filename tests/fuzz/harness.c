@@ -5,7 +5,7 @@
    TARGET says what the input is: lines, configuration, journal, old_journal, feed, clearing or dol. Each run of the
    program is a child of this process, which maps the fuzzer's counts too. FUZZ_ROOM is a folder in memory, and is
    emptied before each input. FUZZ_REQUESTS is served by each valid configuration, and FUZZ_HELD is the journal that a
-   clearing file is held against. tests/fuzz/run builds this and starts it. */
+   clearing file is held against. tests/fuzz/search builds this and starts it. */
 #define _GNU_SOURCE
 #include <dirent.h>
 #include <fcntl.h>
@@ -309,7 +309,7 @@ static void try_dol(void)
 
 int main(int count, char **words)
 {
-    hold(count == 3 && getenv("FUZZ_CONFIG") && getenv("FUZZ_ROOM"), "start it by tests/fuzz/run");
+    hold(count == 3 && getenv("FUZZ_CONFIG") && getenv("FUZZ_ROOM"), "start it by tests/fuzz/search");
     config = getenv("FUZZ_CONFIG");
     room = getenv("FUZZ_ROOM");
     input = words[2];
