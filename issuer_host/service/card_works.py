@@ -285,6 +285,7 @@ class CardWorks:
             self.cards[pan] = collections.deque(kept)
             if not kept:
                 del self.cards[pan]
+                self.before.pop(pan, None)
 
 
 def pan_of(line: bytes) -> str:
