@@ -4,12 +4,22 @@ Python ends with 1 at an exception that nobody catches. Here that is 75, after w
 of memory, of processes or of descriptors passes, and so does most of what nobody thought of.
 """
 import importlib
+import re
 import sys
 import traceback
 from collections.abc import Sequence
 
 # Status.PASSES, which is said again here: the module that has it may be what can't be imported.
 PASSES = 75
+# What may be an account number, or the bytes of a line.
+DIGITS = re.compile(r"[0-9A-Fa-f]{8,}")
+
+
+def without_cards(text: str) -> str:
+    """Returns a text in which each long number is masked."""
+    from issuer_host.masks import masked
+
+    return DIGITS.sub(lambda found: masked(found[0]), text)
 
 
 def run(module: str, words: Sequence[str]) -> int:
@@ -18,7 +28,7 @@ def run(module: str, words: Sequence[str]) -> int:
         status: int = importlib.import_module(module).main(words)
         return status
     except Exception:
-        traceback.print_exc()
+        sys.stderr.write(without_cards(traceback.format_exc()))
         return PASSES
 
 
