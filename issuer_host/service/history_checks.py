@@ -18,7 +18,7 @@ NAME = "issuer-run"
 APPENDING = ("serve", "standby")
 # How long another start may check the journals, and how often it is looked for.
 MOST_SECONDS = 600.0
-LOOK_SECONDS = 0.05
+LOOK_SECONDS = 0.2
 # So many bytes of journals are checked in a fraction of a second.
 SMALL_BYTES = 1 << 24
 
@@ -63,7 +63,8 @@ def mark_of(name: str, shards: int) -> Optional[RunMark]:
     end = time.monotonic() + MOST_SECONDS
     while time.monotonic() < end:
         mark = lock_mark(name)
-        is_open = any(is_locked(journal_path(name, shard)) for shard in range(shards))
+        # (a look is a lock for a moment, at which another program would end: so it is at one journal, and seldom)
+        is_open = any(is_locked(journal_path(name, shard)) for shard in range(shards if mark else 1))
         if mark is not None and is_open:
             # (a run that no careful start began)
             mark.may_append()
