@@ -227,7 +227,7 @@ module _ {S : Type 0} {G : Ghosts S} where
         let book = books.books_are shard old.0 store.0 one.0 was old.1 store.1 one.1 was_at in
         let log = ready.opened.stores_are shard store.0 store.1 in
         let old_log = ready.opened.olds_are shard old.0 old.1 in
-        let read = ready.only_read.each shard old.0 old_here.0 old.1 old_here.1 in
+        let only = ready.only_read.each shard old.0 old_here.0 old.1 old_here.1 in
         let from = ready.loaded.each shard old.0 old_here.0 store.0 one.0 old.1 old_here.1 store.1 one.1 in
         let old_held = logs (old_name prefix shard) in
         let held = logs (journal_name prefix shard) in
@@ -262,7 +262,7 @@ module _ {S : Type 0} {G : Ghosts S} where
             no_fault = no_fault;
             none_reported = book.untold;
           };
-          old_stays = stays-opened told old_held old.0 old_here.0 old_log read.bytes_are read.disk_is;
+          old_stays = stays-opened told old_held old.0 old_here.0 old_log only.bytes_are only.disk_is;
           old_no_fault = from.old_counts.counted ∙ old_log.new;
           extended = leaves.extended shard was.history history was_history history_at;
           tail = has.tail;
