@@ -7,5 +7,5 @@
 - `service`: what deploy/ knows of the program; the units and their exposure, the alert rules and the dashboard
 - `package`: the Debian package, twice the same, what it has and what it doesn't
 
-Each has a list CHECKS. A check needs nothing that another one leaves.
+Each has a list CHECKS. A check needs nothing that another one leaves; the first that looks at the package makes it.
 """
