@@ -109,6 +109,24 @@ def has_its_commands(tally: Tally) -> None:
     tally.holds("shipped are 1987-ascii, 1993-packed" in ran.stderr, f"the packaged gateway: {ran.stderr!r}")
 
 
+def needs_what_it_runs(tally: Tally) -> None:
+    """It depends on what a bridge can't do without, its commands read no module of a user's and leave none compiled."""
+    package, path = made_once(tally)
+    ran = run_tool(tally, "dpkg-deb", "--field", path, "Depends")
+    needed = [word.split()[0] for word in ran.stdout.strip().split(", ")]
+    tally.holds({"python3", "python3-pika", "passwd"} <= set(needed), f"the package depends on {needed}")
+    mode = os.stat(package.path("etc/issuer")).st_mode & 0o777
+    tally.expect(mode, 0o700, "the mode of the folder of configurations")
+    commands = [one for one in glob.glob(package.path(f"{PRIVATE}/deploy/*")) if os.access(one, os.X_OK)]
+    scripts = [one for one in commands if os.path.isfile(one)]
+    tally.holds(scripts, "the package has no script")
+    for one in scripts:
+        tally.expect(content_of(one).partition("\n")[0], "#!/usr/bin/python3 -I", f"the first line of {one}")
+        run_tool(tally, one, "--help")
+    compiled = [name for name, folders, _ in os.walk(package.root) if "__pycache__" in folders]
+    tally.expect(compiled, [], "where its commands left compiled modules")
+
+
 def has_no_part_that_builds(tally: Tally) -> None:
     """An installed copy has no module that builds, proves, tries or packages, and the launcher refuses to."""
     package = made_once(tally)[0]
@@ -152,6 +170,7 @@ CHECKS = [
         has_version_and_licence,
         runs_the_packaged_program,
         has_its_commands,
+        needs_what_it_runs,
         has_no_part_that_builds,
         lintian_is_content,
     )
