@@ -15,7 +15,7 @@ What runs:
 What operators run:
 
 - `queues` declares the broker's queues. `order` queues commands and sets statuses: `ordering` by a bridge's socket,
-  `offline_order` over journals
+  `offline_order` over journals. `order_text` has the texts of orders, `order_words` what else the command may be asked
 - `configurations` reads those of all partitions, `partition` cuts cards into them, `repartition` moves journals
 - `follow` writes journals as a feed; `durable_lines` says which of their records are durable
 - `offline` runs the program where no host does

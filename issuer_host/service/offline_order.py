@@ -4,7 +4,7 @@ import contextlib
 import fcntl
 import os
 from collections.abc import Iterator, Mapping, Sequence
-from typing import Optional, Protocol
+from typing import Optional
 
 from issuer_host.answers import REFUSED, kind_of
 from issuer_host.masks import name_of_card
@@ -14,36 +14,13 @@ from issuer_host.service.audit import Audit
 from issuer_host.service.card_records import records_of
 from issuer_host.service.folders import open_own
 from issuer_host.service.offline import Card
+from issuer_host.service.order_words import Options
 from issuer_host.service.orders import Order, order_of
 from issuer_host.service.refusal import Refusal
 from issuer_host.service.units import stopped
 from issuer_host.service.work_file import WorkFile, restoring_line
 from issuer_host.show_lines import ShownCard
 from issuer_host.statuses import Status
-
-
-class Options(Protocol):
-    """The words of the command that are for such orders."""
-
-    @property
-    def config(self) -> str:
-        ...
-
-    @property
-    def journal(self) -> str:
-        ...
-
-    @property
-    def service(self) -> list[str]:
-        ...
-
-    @property
-    def queued(self) -> Optional[int]:
-        ...
-
-    @property
-    def program(self) -> Optional[str]:
-        ...
 
 
 @contextlib.contextmanager
@@ -108,7 +85,11 @@ def restoring(file: WorkFile) -> list[Order]:
         return []
     records = records_of(file.journal)
     lines = [restoring_line(begun, records) for begun in declines]
-    return [order for order in (order_of("-/0", line) for line in lines if line) if order]
+    return orders_of([line for line in lines if line])
+
+
+def orders_of(lines: Sequence[str]) -> list[Order]:
+    return [order for order in (order_of(f"-/{at}", line) for at, line in enumerate(lines)) if order]
 
 
 def settle(file: WorkFile) -> None:
@@ -119,8 +100,9 @@ def settle(file: WorkFile) -> None:
             file.end(begun.number)
 
 
-def order(options: Options, lines: Sequence[Order]) -> None:
+def order(options: Options, texts: Sequence[str]) -> None:
     where = options.config, options.journal, options.program
+    lines = orders_of(texts)
     with alone(options.journal), stopped(options.service), contextlib.closing(WorkFile(options.journal)) as file:
         try:
             before = offline.show(*where)

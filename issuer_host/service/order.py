@@ -26,87 +26,68 @@ A second order on the same journals is refused while one runs. The status is 0 i
 `queued` and `status` changed by these lines and nothing else; 1 if something is refused or differs, with what differs.
 Then look before you order again. A card whose status an interrupted decline of its account has left gets it back first.
 """
-import argparse
 import os
 import sys
-from collections.abc import Sequence
-from typing import NamedTuple, Optional
 
-from issuer_host.service.orders import Order, order_of
+from issuer_host.service import ordering
+from issuer_host.service.order_text import is_number, words_of
 from issuer_host.service.refusal import Refusal, tell
 
-NO_NUMBER = "-"
+SOCKET, NUMBER = "--socket", "--number"
 
 
-class Options(NamedTuple):
-    """The words of the command."""
+def plain(words: list[str]) -> "tuple[list[str], str] | None":
+    """Returns the sockets and the number of `--socket PATH ..` with or without `--number TEXT`; None of other words.
 
-    socket: list[str]
-    number: Optional[str]
-    config: str
-    journal: str
-    service: list[str]
-    queued: Optional[int]
-    program: Optional[str]
-
-
-def options_of(words: Sequence[str]) -> Options:
-    parser = argparse.ArgumentParser(usage=__doc__)
-    parser.add_argument("--socket", nargs="+", default=[])
-    parser.add_argument("--number")
-    parser.add_argument("--config", default="")
-    parser.add_argument("--journal", default="")
-    parser.add_argument("--service", nargs="+", default=[])
-    parser.add_argument("--queued", type=int)
-    parser.add_argument("--program")
-    options = Options(**vars(parser.parse_args(words)))
-    if bool(options.socket) == bool(options.config and options.journal):
-        parser.error("either --socket, or --config and --journal")
-    if options.number is not None and not options.socket:
-        parser.error("--number is for orders by --socket; over journals --queued does it")
-    if options.socket and (options.service or options.queued is not None):
-        parser.error(
-            "--service and --queued are for orders over journals; by --socket nothing stops, and --number does it"
-        )
-    return options
+    Those are argparse's, whose import takes longer than an order.
+    """
+    number = ""
+    if NUMBER in words[-2:-1]:
+        *words, _, number = words
+    sockets = words[1:]
+    is_plain = words[:1] == [SOCKET] and sockets and not any(word.startswith("-") for word in (*sockets, number))
+    return (sockets, number) if is_plain else None
 
 
-def lines_of(text: str, number: str) -> list[Order]:
-    """Returns the lines, each with its number: that of the order, and its own."""
-    found = []
-    for at, line in enumerate(text.splitlines(), 1):
-        order = order_of(f"{number}/{at}", line)
-        if order is None:
-            raise Refusal(f"line {at} has neither the form Q nor S; nothing was ordered")
-        found.append(order)
-    if not found:
+def lines_of(text: str) -> list[str]:
+    """Returns the lines of an order. Nothing is ordered if one of them has another form."""
+    lines = text.splitlines()
+    if not lines:
         raise Refusal("there is no line")
-    return found
+    for at, line in enumerate(lines, 1):
+        if not words_of(line):
+            raise Refusal(f"line {at} has neither the form Q nor S; nothing was ordered")
+    return lines
 
 
-def order(options: Options) -> None:
-    text = sys.stdin.read()
-    if not options.socket:
-        from issuer_host.service import offline_order
-
-        offline_order.order(options, lines_of(text, NO_NUMBER))
-        return
-    from issuer_host.service import ordering
-
-    number = options.number or os.urandom(8).hex()
-    if not ordering.is_number(number):
+def by_socket(sockets: list[str], number: str) -> None:
+    """Orders the lines of the input by a bridge's socket."""
+    if number and not is_number(number):
         raise Refusal("the number is letters, digits and hyphens, 40 at most; nothing was ordered")
-    lines = lines_of(text, number)
-    if options.number is None:
+    lines = lines_of(sys.stdin.read())
+    if not number:
+        number = os.urandom(8).hex()
         tell("order", f"its number is {number}")
-    ordering.order(options.socket, number, lines)
+    ordering.order(sockets, number, lines)
 
 
-def main(words: Sequence[str]) -> int:
-    options = options_of(words)
+def order(words: list[str]) -> None:
+    found = plain(words)
+    if found is None:
+        from issuer_host.service import offline_order, order_words
+
+        options = order_words.options_of(words, __doc__)
+        if not options.socket:
+            offline_order.order(options, lines_of(sys.stdin.read()))
+            return
+        found = options.socket, options.number or ""
+    by_socket(*found)
+
+
+def main(words: list[str]) -> int:
     os.umask(0o077)
     try:
-        order(options)
+        order(words)
     except Refusal as refusal:
         tell("order", str(refusal))
         return 1

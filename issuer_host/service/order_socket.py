@@ -15,7 +15,8 @@ from collections.abc import Callable
 from typing import Optional
 
 from issuer_host.service.loops import Loop
-from issuer_host.service.orders import NOT_DONE, Order, order_of
+from issuer_host.service.order_text import HOST, NOT_DONE, ORDER
+from issuer_host.service.orders import Order, order_of
 from issuer_host.service.refusal import tell
 
 # So many peers are connected at a time; one more waits.
@@ -23,7 +24,6 @@ CONNECTIONS = 16
 MAX_LINE = 1024
 # What the kernel says of a peer: its process, user and group.
 CREDENTIALS = struct.Struct("3i")
-HOST, ORDER = "host", "order"
 
 OnOrder = Callable[[Order, int, Callable[[str], object]], object]
 

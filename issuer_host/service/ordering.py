@@ -1,28 +1,20 @@
-"""Orders at the socket of a bridge, as a command gives them."""
-import re
-import socket
-from collections.abc import Sequence
-from typing import Optional
+"""Orders at the socket of a bridge, as a command gives them. Like `order_text` it imports next to nothing."""
+# (what `socket` stands over: half of the command's start would be the import of that one)
+import _socket
 
-from issuer_host.service.order_socket import HOST, ORDER
-from issuer_host.service.orders import BEFORE, DONE, Order
+from issuer_host.service.order_text import BEFORE, DONE, HOST, NOT_DONE, ORDER
 from issuer_host.service.refusal import Refusal, tell
 
-NUMBER = re.compile(r"[0-9A-Za-z-]{1,40}")
 # A host that has to load its journals first takes longer than this only if it hangs, and then it is killed.
 SECONDS = 300.0
 PIECE = 4096
-
-
-def is_number(number: str) -> bool:
-    return NUMBER.fullmatch(number) is not None
 
 
 class Connection:
     """A connection to a bridge's socket."""
 
     def __init__(self, path: str) -> None:
-        self.to = socket.socket(socket.AF_UNIX, socket.SOCK_STREAM | socket.SOCK_CLOEXEC)
+        self.to = _socket.socket(_socket.AF_UNIX, _socket.SOCK_STREAM | _socket.SOCK_CLOEXEC)
         self.to.settimeout(SECONDS)
         self.to.connect(path)
         self.unread = b""
@@ -42,7 +34,7 @@ class Connection:
         return reply.decode("latin-1")
 
 
-def connected(path: str) -> Optional[Connection]:
+def connected(path: str) -> "Connection | None":
     """Returns a connection, or None if no bridge listens there."""
     try:
         return Connection(path)
@@ -50,7 +42,7 @@ def connected(path: str) -> Optional[Connection]:
         return None
 
 
-def bridges_of(paths: Sequence[str]) -> list[Connection]:
+def bridges_of(paths: list[str]) -> list[Connection]:
     """Returns the bridges that listen, the one that serves first."""
     found = [bridge for bridge in map(connected, paths) if bridge is not None]
     if not found:
@@ -61,16 +53,16 @@ def bridges_of(paths: Sequence[str]) -> list[Connection]:
     return sorted(found, key=lambda bridge: bridge.ask(HOST) != f"{HOST} 1")
 
 
-def order(paths: Sequence[str], number: str, lines: Sequence[Order]) -> None:
+def order(paths: list[str], number: str, lines: list[str]) -> None:
     """Orders lines one after another, and prints their answers."""
     before = []
     bridges = bridges_of(paths)
     for at, line in enumerate(lines, 1):
-        reply = reply_of(bridges, line)
+        reply = reply_of(bridges, f"{number}/{at}", line)
         word, _, said = reply.partition(" ")
         if word not in (DONE, BEFORE):
             again = f"; give the same order with --number {number}: no line is put twice"
-            why = reply if reply.startswith("not done") else f"{reply or 'no reply came'}{again}"
+            why = reply if reply.startswith(f"{NOT_DONE} done") else f"{reply or 'no reply came'}{again}"
             raise Refusal(f"line {at}: {why}")
         print(said, flush=True)
         if word == BEFORE:
@@ -80,11 +72,11 @@ def order(paths: Sequence[str], number: str, lines: Sequence[Order]) -> None:
         tell("order", f"{some} done before, by the same number")
 
 
-def reply_of(bridges: Sequence[Connection], line: Order) -> str:
+def reply_of(bridges: list[Connection], number: str, line: str) -> str:
     """Returns what became of a line: by the first bridge, or by the next one if that has no journals."""
     reply = ""
     for bridge in bridges:
-        reply = bridge.ask(f"{ORDER} {line.number} {line.text}")
-        if reply and not reply.startswith("not known"):
+        reply = bridge.ask(f"{ORDER} {number} {line}")
+        if reply and not reply.startswith(f"{NOT_DONE} known"):
             break
     return reply

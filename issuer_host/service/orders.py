@@ -4,7 +4,6 @@ Each line of an order has a number of its own. Before it is put, that is noted d
 a line with a number that was recorded isn't put again: it gets the first one's answer. A line that got a refusal left
 no record, and may be put again.
 """
-import re
 from collections.abc import Callable
 from typing import NamedTuple, Optional
 
@@ -12,13 +11,10 @@ from issuer_host.answers import RECORDED, REFUSED, Refusal, kind_of
 from issuer_host.masks import name_of_card
 from issuer_host.service.card_records import Card
 from issuer_host.service.card_works import Ledger, Put, Steps, Work
+from issuer_host.service.order_text import BEFORE, DONE, NOT_DONE, is_number_of_line, words_of
 from issuer_host.service.work_file import Begun, sum_of
 
-FORM = re.compile(r"(?P<kind>[QS]) (?P<pan>[0-9]{8,19}) (?P<psn>[0-9]{2}) (?P<value>[0-9a-fA-F]+)")
-NUMBER = re.compile(r"[0-9A-Za-z-]{1,40}/[0-9]{1,7}")
 NOT_RECORDED = f"{REFUSED} {int(Refusal.STORE_FAULT)}"
-# How a reply to an order's line begins.
-DONE, BEFORE, NOT_DONE = "done", "before", "not"
 
 
 class Order(NamedTuple):
@@ -33,10 +29,11 @@ class Order(NamedTuple):
 
 def order_of(number: str, text: str) -> Optional[Order]:
     """Returns the order of a line, or None if the line or the number has another form."""
-    form = FORM.fullmatch(text)
-    if not form or not NUMBER.fullmatch(number):
+    words = words_of(text)
+    if not words or not is_number_of_line(number):
         return None
-    return Order(number, text, form["kind"], (form["pan"], form["psn"]), form["value"])
+    kind, pan, psn, value = words
+    return Order(number, text, kind, (pan, psn), value)
 
 
 class Ordered(Work):

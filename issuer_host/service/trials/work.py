@@ -11,7 +11,7 @@ from issuer_host.partitions import partition_of
 from issuer_host.request_lines import QUEUE, SET_STATUS, pan_of_line
 from issuer_host.service import ordering
 from issuer_host.service.declines import body_of
-from issuer_host.service.orders import BEFORE, DONE, order_of
+from issuer_host.service.order_text import BEFORE, DONE
 from issuer_host.service.refusal import Refusal
 from issuer_host.service.trials.cards import ACCOUNT, ACCOUNT_CODE
 from issuer_host.service.trials.farm import PARTITIONS, SHARDS, Farm
@@ -84,12 +84,11 @@ class Orders:
 
     def answer_of(self, partition: int, line: str) -> Optional[str]:
         """Gives an order until it is done."""
-        order = order_of(f"{os.urandom(8).hex()}/1", line)
-        assert order is not None
+        number = f"{os.urandom(8).hex()}/1"
         end = time.monotonic() + ORDER_SECONDS
         while time.monotonic() < end:
             try:
-                reply = ordering.reply_of(ordering.bridges_of(self.farm.sockets(partition)), order)
+                reply = ordering.reply_of(ordering.bridges_of(self.farm.sockets(partition)), number, line)
             except Refusal:
                 reply = ""
             word, _, answer = reply.partition(" ")
