@@ -6,7 +6,7 @@ and begins again from its journals and a place in the stream that it kept some t
 """
 import collections
 from collections.abc import Callable, Iterator
-from typing import NamedTuple
+from typing import NamedTuple, Optional
 
 from issuer_host.limits import MAX_SHARDS
 from issuer_host.replication.messages import Barrier, Message, Record
@@ -73,6 +73,10 @@ class Node:
             raise Broken("journals are truncated that a host has open")
         del self.held[shard][length:]
 
+    def counted(self, record: Record) -> None:
+        if self.held[record.shard][record.place : record.place + 1] != [record]:
+            raise Broken(f"{record} counts, and the journal hasn't got it")
+
     # What it does outside.
     def publish(self, message: Message) -> None:
         self.written.append(message)
@@ -86,6 +90,7 @@ class Node:
 
     def begin_host(self) -> None:
         self.has_host = True
+        self.bridge.host_loaded()
 
     def end_host(self) -> None:
         self.has_host = False
@@ -108,14 +113,28 @@ class Node:
 
     def ask(self, counter: str) -> None:
         """Puts a request of a card's counter to the host: it has one record for it, whoever asks."""
+        record = self.find(counter)
+        if record is None:
+            record = self.decide(counter)
+            self.bridge.recorded([record])
+        self.bridge.answered(Answer(counter, record.text, record.at))
+
+    def find(self, counter: str) -> Optional[Record]:
+        of_counter = (record for records in self.held for record in records if record.text.startswith(f"{counter}:"))
+        return next(of_counter, None)
+
+    def decide(self, counter: str) -> Record:
         shard = COUNTERS.index(counter) % self.world.shards
-        for record in self.held[shard]:
-            if record.text.startswith(f"{counter}:"):
-                self.bridge.answered(Answer(counter, record.text, record))
-                return
         record = Record(shard, len(self.held[shard]), f"{counter}:{self.new_name()}")
         self.held[shard].append(record)
-        self.bridge.answered(Answer(counter, record.text, record, is_new=True))
+        return record
+
+    def crash(self, counter: str) -> None:
+        """The host records its decision of a request, dies before it answers, and another begins."""
+        if self.find(counter) is None:
+            self.decide(counter)
+        self.bridge.host_ended()
+        self.bridge.host_loaded()
 
     def ask_of_none(self) -> None:
         """Puts a request whose answer names no record, and says all the same what the host has."""
@@ -149,16 +168,16 @@ class World:
 
     def replied(self, answer: Answer) -> None:
         """Holds a reply that is sent to what counts."""
-        if answer.record is None:
+        if answer.place is None:
             known = {record.text for records in self.history for record in records}
             if not set(answer.text.split()) <= known:
                 raise Broken(f"an answer stands on records that don't count: {answer.text}")
             return
         if self.replies.setdefault(str(answer.request), answer.text) != answer.text:
             raise Broken(f"two replies for counter {answer.request}")
-        shard, place = answer.record.at
-        if self.history[shard][place : place + 1] != [answer.record]:
-            raise Broken(f"a reply of {answer.record}, which doesn't count")
+        shard, place = answer.place
+        if [record.text for record in self.history[shard][place : place + 1]] != [answer.text]:
+            raise Broken(f"a reply of {answer.text}, which doesn't count")
 
     def take(self, node: Node) -> None:
         """The broker takes a message."""
@@ -197,6 +216,7 @@ class World:
             "call": node.call,
             "ask": lambda: node.ask(step.counter),
             "ask_of_none": node.ask_of_none,
+            "crash": lambda: node.crash(step.counter or COUNTERS[0]),
             "keep": node.keep,
             "write_again": node.bridge.write_again,
             "kill": node.begin_again,
@@ -239,6 +259,9 @@ class Shelf:
         pass
 
     def truncate(self, shard: int, length: int) -> None:
+        pass
+
+    def counted(self, record: Record) -> None:
         pass
 
 

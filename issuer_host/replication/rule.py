@@ -19,8 +19,8 @@ A bridge answers by what counts alone:
   stand on those before it.
 - A record that counts is compared with the journal's at its place. If they differ, the journal is truncated there
   before the record is taken: no reply of what goes was sent.
-- Records of its own beyond what counts are written under its new barrier before its host answers, and its answers wait
-  for them: they may stand on them.
+- Records of its own beyond what counts are written under its new barrier before its host gets a line, and the host's
+  answers wait for them: they may stand on them. So it is with each host that begins while the bridge serves.
 """
 import collections
 import enum
@@ -30,9 +30,12 @@ from typing import NamedTuple, Optional, Protocol
 from issuer_host.limits import MAX_SHARDS
 from issuer_host.replication.messages import Barrier, Mark, Message, Record, Records
 
+# The number of a shard, and a record's place in it.
+Place = tuple[int, int]
+
 NO_BARRIER = Barrier(0, "", "")
-# How many records one message has at most.
-MAX_RECORDS = 256
+# How many records one message has at most: the longest ones too are within what a broker takes of a message.
+MAX_RECORDS = 100
 
 
 class Diverged(Exception):
@@ -67,12 +70,11 @@ class Count:
 
 
 class Answer(NamedTuple):
-    """A host's answer to a request: the record that it names, if any, and whether it made that record."""
+    """A host's answer to a request: the place of the record that it names, if any."""
 
     request: object
     text: str
-    record: Optional[Record] = None
-    is_new: bool = False
+    place: Optional[Place] = None
 
 
 class Journals(Protocol):
@@ -90,6 +92,9 @@ class Journals(Protocol):
     def truncate(self, shard: int, length: int) -> None:
         """Cuts a shard's records off beyond so many."""
 
+    def counted(self, record: Record) -> None:
+        """A record that the journals have counts: the next one of its shard."""
+
 
 class Outside(Protocol):
     """What a bridge does outside."""
@@ -104,13 +109,13 @@ class Outside(Protocol):
         """The bridge has read what there was: it may stand in the line of the queue's consumers."""
 
     def begin_host(self) -> None:
-        """Starts the host over the journals. Requests may be put to it."""
+        """Starts the host over the journals, and says when it has loaded them. Requests may be put to it then."""
 
     def end_host(self) -> None:
         """Kills the host, if it runs, and gives the requests that aren't answered back to the queue."""
 
     def reply(self, answer: Answer) -> None:
-        """Sends an answer's reply."""
+        """Sends an answer's reply, or puts the line to the host that waited for that answer."""
 
 
 class State(enum.Enum):
@@ -126,7 +131,7 @@ class State(enum.Enum):
 class Held(NamedTuple):
     """The place of a record that has to count, if any, and the answer that is sent then, if any."""
 
-    place: Optional[tuple[int, int]]
+    place: Optional[Place]
     answer: Optional[Answer]
 
 
@@ -189,11 +194,15 @@ class Bridge:
     def settle(self, record: Record) -> None:
         """Has the journal hold a record that counts."""
         is_there = record.place < self.journals.length(record.shard)
-        if is_there and self.journals.record(record.shard, record.place) == record:
-            return
+        if not is_there or self.journals.record(record.shard, record.place) != record:
+            self.replace(record, is_there)
+        self.journals.counted(record)
+
+    def replace(self, record: Record, is_other_there: bool) -> None:
+        """Appends a record that counts, and cuts off before what its journal has at its place."""
         if self.state is State.SERVING:
             raise Diverged(f"shard {record.shard}, record {record.place}")
-        if is_there:
+        if is_other_there:
             self.journals.truncate(record.shard, record.place)
         self.journals.put(record)
 
@@ -208,39 +217,59 @@ class Bridge:
             self.outside.ready()
 
     def begin(self) -> None:
-        """Begins to serve: writes the records that don't count yet, and lets no answer go before they do."""
+        """Begins to serve."""
         self.state = State.SERVING
-        self.held.extend(Held(record.at, None) for record in self.uncounted())
-        self.write_again()
         self.outside.begin_host()
+
+    def host_loaded(self) -> None:
+        """A host has loaded the journals, and has no line yet: it may answer by records that don't count.
+
+        They are written, and no answer goes before they count.
+        """
+        if self.state is State.SERVING:
+            self.held.extend(Held(place, None) for place in self.last_uncounted())
+            self.write_again()
+
+    def host_ended(self) -> None:
+        """The host has ended by itself: what it answered and nobody knows is asked of the next one."""
+        self.held.clear()
+
+    def last_uncounted(self) -> Iterator[Place]:
+        """The place of the last record of each journal that has some beyond those that count."""
+        for shard, count in enumerate(self.count.records):
+            length = self.journals.length(shard)
+            if length > count:
+                yield shard, length - 1
 
     def uncounted(self) -> Iterator[Record]:
         """The records of the journals beyond those that count."""
-        for shard, count in enumerate(self.count.records):
-            for place in range(count, self.journals.length(shard)):
+        for shard, last in self.last_uncounted():
+            for place in range(self.count.records[shard], last + 1):
                 yield self.journals.record(shard, place)
 
     def write_again(self) -> None:
         """Writes what didn't come back: a stream may lose a message without a word."""
+        if self.state is State.READING:
+            self.outside.publish(Mark(self.word))
         if self.state is State.BEGINNING:
             self.outside.publish(self.barrier)
         if self.state is State.SERVING:
-            records = list(self.uncounted())
-            for first in range(0, len(records), MAX_RECORDS):
-                self.publish_records(records[first : first + MAX_RECORDS])
+            self.recorded(list(self.uncounted()))
 
-    def publish_records(self, records: list[Record]) -> None:
-        self.sequence += 1
-        self.outside.publish(Records(self.barrier.name, self.sequence, tuple(records)))
-
-    def answered(self, answer: Answer) -> None:
-        """The host has answered a request: its next answer, in its order."""
+    def recorded(self, records: list[Record]) -> None:
+        """The host has recorded: the next records of its journals, each shard's in their order."""
         if self.state is not State.SERVING:
             return
-        if answer.record is not None and answer.is_new:
-            self.publish_records([answer.record])
-        self.held.append(Held(answer.record.at if answer.record else None, answer))
-        self.release()
+        for first in range(0, len(records), MAX_RECORDS):
+            self.sequence += 1
+            message = Records(self.barrier.name, self.sequence, tuple(records[first : first + MAX_RECORDS]))
+            self.outside.publish(message)
+
+    def answered(self, answer: Answer) -> None:
+        """The host has answered a line: its next answer, in its order. Its records were written before."""
+        if self.state is State.SERVING:
+            self.held.append(Held(answer.place, answer))
+            self.release()
 
     def release(self) -> None:
         """Sends the answers at the front whose records count."""
