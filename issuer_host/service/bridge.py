@@ -34,23 +34,20 @@ from typing import Any, NamedTuple, NoReturn, Optional
 
 from issuer_host.paths import HOME
 from issuer_host.service import broker
-from issuer_host.service.deaf_queues import DeafQueues
 from issuer_host.service.figures import Figures
-from issuer_host.service.flight import Entry, Flight
-from issuer_host.service.link import Confirm, Link
+from issuer_host.service.flight import Entry
+from issuer_host.service.link import Link
 from issuer_host.service.loops import Callback, Channel, Delivery, Properties, Step, new_loop
 from issuer_host.service.notices import notify
 from issuer_host.service.readiness import Readiness
 from issuer_host.service.refusal import Refusal, tell
+from issuer_host.service.replying import Replying
 from issuer_host.service.reply_mac import ReplyMacs
 from issuer_host.service.serving import Outside, Serving
 from issuer_host.statuses import Status
 
 NAME = "bridge"
 CAREFUL_START = os.path.join(HOME, "deploy", "issuer-run")
-# An answer that its reply queue refuses is sent again, so often, unless the queue refused others just before.
-TRIES = 3
-AGAIN_SECONDS = 0.2
 TICK_SECONDS = 1.0
 STOP_SECONDS = 5.0
 
@@ -110,10 +107,12 @@ class Bridge:
         self.figures = Figures(options.partition, port, options.journal)
         parameters = broker.parameters_of(options.broker_file)
         self.link = Link(self.loop, parameters, self.steps_of, self.ready, self.lost)
-        self.flight = Flight()
-        self.deaf = DeafQueues()
-        self.macs = ReplyMacs(options.broker_file)
-        outside = Outside(self.send, self.is_current, self.host_is_ready, self.end_if_idle, self.give_up)
+        macs = ReplyMacs(options.broker_file)
+        self.replying = Replying(self.loop, self.link, macs, self.figures, self.end_if_idle, NAME)
+        self.flight = self.replying.flight
+        outside = Outside(
+            self.replying.send, self.replying.is_current, self.host_is_ready, self.end_if_idle, self.give_up
+        )
         command = command_of(options)
         self.serving = Serving(self.loop, command, options.journal, self.figures, options.orders or "", outside)
         self.readiness = Readiness(NAME)
@@ -175,44 +174,7 @@ class Bridge:
         self.flight.add(entry)
         if not properties.reply_to or not self.serving.take(entry):
             self.figures.bodies.inc()
-            self.settle(entry, False)
-
-    def settle(self, entry: Entry, is_acknowledged: bool) -> None:
-        if self.link.channel:
-            self.flight.settle(entry, is_acknowledged, self.link.channel)
-        self.end_if_idle()
-
-    def is_current(self, entry: Entry) -> bool:
-        """Whether an entry is still this connection's to answer."""
-        return self.link.channel is not None and entry in self.flight
-
-    # Answers
-
-    def send(self, entry: Entry, text: str, tries: int = TRIES) -> None:
-        """Sends an answer. One that nobody takes is dropped: it is recorded, and asked again it is `kept`."""
-        if not self.is_current(entry):
-            return
-
-        def confirmed(how: Confirm) -> None:
-            if how is Confirm.NACKED and tries > 1 and not self.deaf.has(entry.reply_to):
-                self.loop.call_later(AGAIN_SECONDS, lambda: self.send(entry, text, tries - 1))
-                return
-            if how is Confirm.NACKED:
-                self.drop(entry)
-            if how is Confirm.RETURNED:
-                self.figures.returned.inc()
-            self.figures.answered(text, time.monotonic() - entry.began)
-            self.settle(entry, True)
-
-        body = self.macs.sealed(entry.correlation, entry.line, text)
-        self.link.publish(broker.REPLIES, entry.reply_to, body, entry.correlation, confirmed)
-
-    def drop(self, entry: Entry) -> None:
-        """Drops an answer that its reply queue refuses."""
-        if not self.deaf.has(entry.reply_to):
-            tell(NAME, f"a reply queue refused an answer: {str(entry.reply_to)[:80]!r}")
-        self.deaf.add(entry.reply_to)
-        self.figures.dropped.inc()
+            self.replying.settle(entry, False)
 
     # Time, and the end
 

@@ -11,6 +11,9 @@ from issuer_host.service import broker_file
 from issuer_host.service.loops import Channel, Step
 
 REQUESTS, REPLIES, DEAD = "issuer.requests", "issuer.replies", "issuer.dead"
+# By this exchange nodes write to the streams of partitions: no publisher may.
+RECORDS = "issuer.records"
+STREAM_ENDING = ".records"
 REPLY_PREFIX = "issuer.reply."
 QUEUE_LENGTH = 100_000
 DEAD_LENGTH = 10_000
@@ -46,8 +49,18 @@ REPLY_ARGUMENTS = {
 }
 
 
+# Of a partition's stream: so many nodes of the broker have a copy, and what is oldest goes by whole segments.
+COPIES = 3
+SEGMENT_BYTES = 20_000_000
+STREAM_BYTES = 2_000_000_000
+
+
 def queue_of(partition: int) -> str:
     return f"{REQUESTS}.{partition}"
+
+
+def stream_of(partition: int) -> str:
+    return queue_of(partition) + STREAM_ENDING
 
 
 def parameters_of(path: Optional[str]) -> Any:
@@ -81,6 +94,28 @@ def declare_partition(channel: Channel, partition: int) -> list[Step]:
     return [
         lambda then: channel.queue_declare(queue, durable=True, arguments=PARTITION_ARGUMENTS, callback=then),
         lambda then: channel.queue_bind(queue, REQUESTS, str(partition), callback=then),
+    ]
+
+
+def stream_arguments(stream_bytes: int = STREAM_BYTES) -> "dict[str, object]":
+    return {
+        "x-queue-type": "stream",
+        "x-initial-cluster-size": COPIES,
+        "x-queue-leader-locator": "least-leaders",
+        "x-stream-max-segment-size-bytes": SEGMENT_BYTES,
+        "x-max-length-bytes": stream_bytes,
+    }
+
+
+def declare_stream(channel: Channel, partition: int, stream_bytes: int = STREAM_BYTES) -> list[Step]:
+    """Steps that declare a partition's stream, and have its queue get what wakes a node."""
+    stream, queue = stream_of(partition), queue_of(partition)
+    arguments = stream_arguments(stream_bytes)
+    return [
+        lambda then: channel.exchange_declare(RECORDS, "direct", durable=True, callback=then),
+        lambda then: channel.queue_declare(stream, durable=True, arguments=arguments, callback=then),
+        lambda then: channel.queue_bind(stream, RECORDS, stream, callback=then),
+        lambda then: channel.queue_bind(queue, RECORDS, queue, callback=then),
     ]
 
 

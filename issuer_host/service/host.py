@@ -1,5 +1,6 @@
 """One run of the program over a partition's journals, as the bridge's loop sees it: lines in, answers out, an end."""
 import collections
+import contextlib
 import fcntl
 import os
 import subprocess
@@ -43,6 +44,8 @@ class Host:
         self.answers = 0
         self.is_open = True
         self.is_waiting = False
+        # Whether it is to end once it has all lines.
+        self.is_ending = False
         # (if the bridge dies both pipes end, and so does the program)
         self.process = subprocess.Popen(command, stdin=subprocess.PIPE, stdout=subprocess.PIPE, bufsize=0)
         assert self.process.stdin is not None and self.process.stdout is not None
@@ -84,6 +87,8 @@ class Host:
             # (it is ending; its output's end says how)
             self.unwritten.clear()
         self.wait_no_longer()
+        if self.is_ending:
+            self.close_input()
 
     def write_some(self) -> None:
         """Writes as many lines as go into the pipe in one piece."""
@@ -115,8 +120,36 @@ class Host:
             self.wait_no_longer()
             self.input.close()
 
+    def close_when_written(self) -> None:
+        """Lets the run end once it has all lines."""
+        self.is_ending = True
+        self.flush()
+
+    def finish_now(self, seconds: float) -> int:
+        """Has the run take all lines and end, and waits for it. Returns its status; nothing is called any more."""
+        self.loop.remove_handler(self.output.fileno())
+        self.wait_no_longer()
+        if self.is_open:
+            os.set_blocking(self.input.fileno(), True)
+            with contextlib.suppress(BrokenPipeError):
+                while self.unwritten:
+                    self.write_some()
+        self.close_input()
+        try:
+            return self.wait(seconds)
+        finally:
+            self.output.close()
+
     def kill(self) -> None:
         self.process.kill()
+
+    def kill_now(self) -> None:
+        """Kills the run, and waits for its end. Nothing is called any more."""
+        self.kill()
+        self.loop.remove_handler(self.output.fileno())
+        self.close_input()
+        self.process.wait()
+        self.output.close()
 
     def read(self, pipe: int, _: int) -> None:
         try:
@@ -138,10 +171,14 @@ class Host:
     def end(self) -> None:
         self.loop.remove_handler(self.output.fileno())
         self.close_input()
-        try:
-            status = self.process.wait(timeout=END_SECONDS)
-        except subprocess.TimeoutExpired:
-            self.process.kill()
-            status = self.process.wait()
+        status = self.wait(END_SECONDS)
         self.output.close()
         self.on_end(status, self.stop_line)
+
+    def wait(self, seconds: float) -> int:
+        """Returns the status of a run that ends. One that doesn't is killed."""
+        try:
+            return self.process.wait(timeout=seconds)
+        except subprocess.TimeoutExpired:
+            self.process.kill()
+            return self.process.wait()

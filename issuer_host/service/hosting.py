@@ -5,6 +5,7 @@ A host gets a line of no form first. Its answer says that the journals are loade
 import collections
 import contextlib
 import os
+import signal
 import time
 from collections.abc import Callable, Sequence
 from typing import NamedTuple, Optional, Union
@@ -14,7 +15,7 @@ from issuer_host.service.card_records import CardRecords
 from issuer_host.service.figures import Figures
 from issuer_host.service.flight import Entry, Line
 from issuer_host.service.host import Host
-from issuer_host.service.loops import Loop
+from issuer_host.service.loops import Action, Loop
 from issuer_host.service.open_journals import Look, OpenJournals
 from issuer_host.service.refusal import tell
 from issuer_host.service.sealing import Sealing
@@ -39,6 +40,8 @@ READ_SECONDS = 0.02
 class Calls(NamedTuple):
     """What is called as a host goes on."""
 
+    # The host has given its next answer: it is taken by the action, now, or later in the order of the answers.
+    pass_on: Callable[[str, Action], object]
     # A request's answer, if somebody still waits for it.
     on_answer: Callable[[Entry, str], object]
     # Whether a request may be put now. If not, whoever says so adds it again.
@@ -56,7 +59,11 @@ class Calls(NamedTuple):
 class Hosting:
     """A partition's host, one run after another."""
 
-    def __init__(self, loop: Loop, command: Sequence[str], journal: str, figures: Figures, calls: Calls) -> None:
+    def __init__(
+        self, loop: Loop, command: Sequence[str], journal: str, figures: Figures, calls: Calls, name: str = "bridge"
+    ) -> None:
+        # Who tells of it.
+        self.name = name
         self.loop = loop
         self.command = command
         self.journal = journal
@@ -65,6 +72,8 @@ class Hosting:
         # The requests that a host has yet to get, and the lines that the host has, in its order; None if nobody waits.
         self.waiting: collections.deque[Entry] = collections.deque()
         self.put: collections.deque[Optional[Union[Entry, Line]]] = collections.deque()
+        # How many answers of the host weren't taken yet.
+        self.untaken = 0
         self.host: Optional[Host] = None
         # Whether a host is needed though no request waits, and whether a start of one is put off.
         self.is_wanted = False
@@ -76,7 +85,7 @@ class Hosting:
         self.are_records_read = False
         # None before the host's first answer.
         self.journals: Optional[OpenJournals] = None
-        self.sealing = Sealing(journal)
+        self.sealing = Sealing(journal, name)
         # When the host's input was closed, and how long it may load.
         self.closed: Optional[float] = None
         self.load_seconds = LOAD_SECONDS
@@ -153,12 +162,13 @@ class Hosting:
         try:
             self.host = Host(self.loop, self.command, self.answered, self.ended)
         except OSError as fault:
-            tell("bridge", f"no host can be started: {fault.strerror}")
+            tell(self.name, f"no host can be started: {fault.strerror}")
             self.start_later()
             return
         self.journals = None
-        self.sealing = Sealing(self.journal)
+        self.sealing = Sealing(self.journal, self.name)
         self.closed = None
+        self.untaken = 0
         self.load_seconds = LOAD_SECONDS + bytes_of(self.journal) / LOAD_BYTES
         self.began = self.heard = time.monotonic()
         self.figures.starts.inc()
@@ -191,7 +201,7 @@ class Hosting:
         try:
             is_read, seconds = records.read_on(), 0.0
         except (OSError, ValueError) as fault:
-            tell("bridge", f"the journals can't be read for their commands: {fault}")
+            tell(self.name, f"the journals can't be read for their commands: {fault}")
             is_read, seconds = False, LAST_DELAY
         if is_read and self.is_loaded:
             records.close()
@@ -206,6 +216,12 @@ class Hosting:
         if self.journals is None:
             self.journals = open_journals(self.journal)
         self.sealing.answer(text)
+        self.untaken += 1
+        self.calls.pass_on(text, lambda: self.take(text))
+
+    def take(self, text: str) -> None:
+        """Takes the host's next answer."""
+        self.untaken -= 1
         entry = self.put.popleft()
         if isinstance(entry, Entry):
             self.calls.on_answer(entry, text)
@@ -213,16 +229,11 @@ class Hosting:
             entry.on_answer(text)
 
     def ended(self, status: int, stop_line: str) -> None:
-        """What the host didn't answer is put to the next one first, in its order."""
-        self.host = None
-        self.are_records_read = False
-        self.sealing.look()
-        self.sealing.end()
-        self.figures.ended(status)
-        self.figures.active.set(0)
+        """What has no answer that was taken is put to the next host first, in its order."""
+        self.has_ended(status)
         if status:
             said = stop_line or "without a last line"
-            tell("bridge", f"the host ended with {status}, {said}: {meaning_of(status)}")
+            tell(self.name, f"the host ended with {status}, {said}: {meaning_of(status)}")
         self.waiting.extendleft(reversed([entry for entry in self.put if isinstance(entry, Entry)]))
         self.put.clear()
         if status in NOT_AGAIN:
@@ -232,6 +243,23 @@ class Hosting:
         else:
             self.start_later()
         self.calls.on_end(status)
+
+    def has_ended(self, status: int) -> None:
+        self.host = None
+        self.are_records_read = False
+        self.sealing.look()
+        self.sealing.end()
+        self.figures.ended(status)
+        self.figures.active.set(0)
+
+    def kill_now(self) -> None:
+        """Kills the host, answers nobody, and doesn't start another. It has ended when this returns."""
+        self.is_wanted = False
+        self.waiting.clear()
+        self.put.clear()
+        if self.host is not None:
+            self.host.kill_now()
+            self.has_ended(-signal.SIGKILL)
 
     def start_later(self) -> None:
         """Tries again, after twice as long each time."""
@@ -248,13 +276,14 @@ class Hosting:
         """Ends a host whose journals were moved, or that is silent for too long."""
         if self.host is None:
             return
-        if not self.put:
+        if len(self.put) <= self.untaken:
+            # (it has nothing to answer)
             self.heard = now
         self.look_at_journals(self.host)
         self.sealing.look()
         if self.closed is not None and now - max(self.closed, self.heard_while_closed()) > SILENT_SECONDS:
             self.kill(self.host, "the host doesn't end, though its input was closed")
-        elif self.put and now - self.heard > (SILENT_SECONDS if self.host.answers else self.load_seconds):
+        elif now - self.heard > (SILENT_SECONDS if self.host.answers else self.load_seconds):
             self.kill(self.host, "the host has been silent for too long")
 
     def heard_while_closed(self) -> float:
@@ -262,7 +291,7 @@ class Hosting:
         return self.heard if self.put else 0.0
 
     def kill(self, host: Host, why: str) -> None:
-        tell("bridge", f"{why}, and is killed")
+        tell(self.name, f"{why}, and is killed")
         self.heard = time.monotonic()
         host.kill()
 
@@ -273,11 +302,11 @@ class Hosting:
         look = self.journals.look()
         if look is Look.REPLACED:
             what = f"the journals {self.journal} were replaced while the host wrote them"
-            tell("bridge", f"{what}: put back the files that it began with")
+            tell(self.name, f"{what}: put back the files that it began with")
             host.kill()
             self.calls.give_up(Status.REFUSED)
         elif self.journals.failed >= FAILED_LOOKS:
-            tell("bridge", f"the journals {self.journal} can't be seen any more: a new start looks at them")
+            tell(self.name, f"the journals {self.journal} can't be seen any more: a new start looks at them")
             host.kill()
             self.calls.give_up(Status.PASSES)
 

@@ -117,7 +117,8 @@ class Link:
             self.on_closed()
             return
         self.on_lost(reason)
-        self.loop.call_later(RECONNECT_SECONDS, self.open)
+        if not self.on_closed:
+            self.loop.call_later(RECONNECT_SECONDS, self.open)
 
     def close(self, then: Action) -> None:
         """Closes for good, and calls `then`."""
@@ -139,6 +140,12 @@ class Link:
         self.number += 1
         self.unconfirmed[self.number] = correlation, then
         self.channel.basic_publish(exchange, key, body, properties, mandatory=True)
+
+    def wake(self, exchange: str, key: str, body: bytes) -> None:
+        """Publishes a message that has no answer, and that nobody misses."""
+        if self.channel is not None:
+            self.number += 1
+            self.channel.basic_publish(exchange, key, body, pika.BasicProperties(delivery_mode=2))
 
     def confirmed(self, frame: Any) -> None:
         method = frame.method

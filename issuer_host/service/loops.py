@@ -38,6 +38,8 @@ class Properties(Protocol):
 
     correlation_id: str
     reply_to: Optional[str]
+    # Where in a stream the message is; None if it is of no stream.
+    stream_offset: Optional[int]
 
 
 class Delivery(Protocol):
@@ -56,7 +58,13 @@ class Channel(Protocol):
     def basic_qos(self, prefetch_size: int = 0, prefetch_count: int = 0) -> None:
         ...
 
-    def basic_consume(self, queue: str, on_message_callback: OnMessage, auto_ack: bool = False) -> str:
+    def basic_consume(
+        self,
+        queue: str,
+        on_message_callback: OnMessage,
+        auto_ack: bool = False,
+        arguments: Optional[Mapping[str, object]] = None,
+    ) -> str:
         ...
 
     def basic_cancel(self, consumer_tag: str) -> None:
@@ -71,6 +79,9 @@ class Channel(Protocol):
     def basic_publish(
         self, exchange: str, routing_key: str, body: bytes, properties: object, mandatory: bool = False
     ) -> None:
+        ...
+
+    def close(self) -> None:
         ...
 
     def confirm_delivery(self, ack_nack_callback: Callable[[Any], None], callback: Callback) -> None:

@@ -1,12 +1,15 @@
 """Declares the exchanges and the quorum queues of all partitions at the broker, or says what the broker lacks.
 
-usage: queues --partitions P [--broker-file FILE]
-       queues --check --partitions P [--broker-file FILE] [--operator USER] [--bridge USER] [--vhost NAME]
+usage: queues --partitions P [--streams] [--stream-bytes N] [--broker-file FILE]
+       queues --check --partitions P [--streams] [--broker-file FILE] [--operator USER] [--bridge USER] [--vhost NAME]
               [--control COMMAND]
 
 Run it once, before the first bridge, and again for more partitions; never two at a time. What exists as it should be
 stays. A queue that exists with other arguments is refused with status 1: delete it while it is empty, and declare it
 again.
+
+--streams       declares the streams of all partitions too, for nodes on several machines (deploy/node)
+--stream-bytes  what a stream keeps (2,000,000,000): a machine that was away while more was written begins from copies
 
 --check     changes nothing, and asks the broker of this machine by rabbitmqctl, as root. It prints a line for each
             thing that is missing, with the command that mends it: users and what they may do, their limits, policies,
@@ -36,6 +39,8 @@ class Options(NamedTuple):
     """The words of the command."""
 
     partitions: int
+    streams: bool
+    stream_bytes: int
     broker_file: Optional[str]
     check: bool
     operator: str
@@ -64,6 +69,8 @@ class Once:
 def options_of(words: Sequence[str]) -> Options:
     parser = argparse.ArgumentParser(usage=__doc__)
     parser.add_argument("--partitions", type=int, required=True)
+    parser.add_argument("--streams", action="store_true")
+    parser.add_argument("--stream-bytes", type=int, default=broker.STREAM_BYTES)
     parser.add_argument("--broker-file")
     parser.add_argument("--check", action="store_true")
     parser.add_argument("--operator", default="issuer-operator")
@@ -79,6 +86,8 @@ def declare(options: Options) -> None:
     steps = broker.declare_exchanges(channel)
     for partition in range(options.partitions):
         steps += broker.declare_partition(channel, partition)
+        if options.streams:
+            steps += broker.declare_stream(channel, partition, options.stream_bytes)
     for step in steps:
         step(lambda _: None)
     # (the broker writes its list of quorum queues twice a second: killed before, it would bring a queue back without a
@@ -110,7 +119,7 @@ def run(options: Options) -> int:
     if options.check:
         return run_check(options)
     declare(options)
-    print(f"{options.partitions} partitions' queues are declared")
+    print(f"{options.partitions} partitions' queues{' and streams' * options.streams} are declared")
     return 0
 
 

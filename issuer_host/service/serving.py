@@ -11,9 +11,9 @@ from issuer_host.service.figures import Figures
 from issuer_host.service.flight import Entry
 from issuer_host.service.holding import Holding
 from issuer_host.service.hosting import Calls, Hosting
-from issuer_host.service.loops import Loop
+from issuer_host.service.loops import Action, Loop
 from issuer_host.service.order_socket import OrderSocket
-from issuer_host.service.orders import Order, Ordered
+from issuer_host.service.orders import NOT_DONE, Order, Ordered
 from issuer_host.service.work_file import WorkFile
 from issuer_host.statuses import Status
 
@@ -21,6 +21,14 @@ NAME = "bridge"
 MAX_BODY = 4095
 # Who asks for a request that isn't an account's decline, in the log.
 SWITCH = "switch"
+
+
+def take_at_once(_: str, take: Action) -> None:
+    take()
+
+
+def nothing() -> None:
+    pass
 
 
 class Outside(NamedTuple):
@@ -35,6 +43,12 @@ class Outside(NamedTuple):
     idle: Callable[[], object]
     # The host ended with a status with which a new start would end too.
     give_up: Callable[[int], object]
+    # A host's answer is taken by the action: at once, or when it may be known.
+    pass_on: Callable[[str, Action], object] = take_at_once
+    # The host ended, whatever its status.
+    ended: Callable[[], object] = nothing
+    # Why no order is taken now; nothing if orders are.
+    why_no_order: Callable[[], str] = str
 
 
 def is_request(body: bytes) -> bool:
@@ -46,14 +60,22 @@ class Serving:
     """The host, and what is put to it."""
 
     def __init__(
-        self, loop: Loop, command: Sequence[str], journal: str, figures: Figures, orders: str, outside: Outside
+        self,
+        loop: Loop,
+        command: Sequence[str],
+        journal: str,
+        figures: Figures,
+        orders: str,
+        outside: Outside,
+        name: str = NAME,
     ) -> None:
         self.loop = loop
         self.figures = figures
         self.outside = outside
         self.holding = Holding()
-        self.audit = Audit(journal, NAME)
+        self.audit = Audit(journal, name)
         calls = Calls(
+            outside.pass_on,
             self.answered,
             lambda entry: self.works.may_pass(entry),
             self.loaded,
@@ -61,7 +83,7 @@ class Serving:
             self.host_ended,
             outside.give_up,
         )
-        self.hosting = Hosting(loop, command, journal, figures, calls)
+        self.hosting = Hosting(loop, command, journal, figures, calls, name)
         self.works = CardWorks(loop, self.hosting, WorkFile(journal), self.work_answered, self.release)
         self.orders = OrderSocket(loop, orders, self.has_host, self.order)
         # Whether requests come here: without them a host ends when it is idle.
@@ -90,6 +112,12 @@ class Serving:
         self.works.abandon("the bridge lost the broker: ask again with the same number")
         self.hosting.abandon()
 
+    def kill(self) -> None:
+        """Answers nobody any more, and kills the host, which has ended when this returns."""
+        self.is_served = False
+        self.works.abandon("another machine may serve the partition now: ask again with the same number")
+        self.hosting.kill_now()
+
     def answered(self, entry: Entry, text: str) -> None:
         """Takes the host's answer: it is sent, or its line is held for a moment and put again."""
         seconds = self.holding.seconds_of(entry, text)
@@ -112,6 +140,10 @@ class Serving:
             self.figures.ordered(text.partition(" ")[0])
             reply(text)
 
+        why = self.outside.why_no_order()
+        if why:
+            told(f"{NOT_DONE} done: {why}")
+            return
         self.works.add(Ordered(order, uid, told))
 
     def work_answered(self, work: Work, line: str, text: str) -> None:
@@ -138,6 +170,7 @@ class Serving:
         self.outside.idle()
 
     def host_ended(self, status: int) -> None:
+        self.outside.ended()
         if status == Status.JOURNAL_CLOSED and not self.is_served:
             self.works.abandon("another bridge, or another program, has the journals: order there")
             self.outside.ready()

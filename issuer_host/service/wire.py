@@ -28,6 +28,9 @@ LAYOUT = (
 )
 # A second word of flags follows.
 MORE_FLAGS = 1
+# The headers of a stream's message that was written without any: its offset alone, a number of eight bytes.
+OFFSET = b"\x0fx-stream-offsetl"
+OFFSET_TABLE = struct.Struct(f">{len(OFFSET)}sq")
 # (bytes if they aren't UTF-8)
 Text = Union[str, bytes]
 
@@ -41,6 +44,7 @@ class UsedProperties:
         self.correlation_id: Optional[Text] = None
         self.reply_to: Optional[Text] = None
         self.message_id: Optional[Text] = None
+        self.stream_offset: Optional[int] = None
 
     def decode(self, encoded: bytes, offset: int = 0) -> "UsedProperties":
         """Takes what is used of the encoded properties. Properties that end too early are those before their end."""
@@ -61,7 +65,9 @@ class UsedProperties:
             if not flags & bit:
                 continue
             begin, at = span_of(encoded, at, layout)
-            if name in vars(self):
+            if layout == TABLE:
+                self.stream_offset = offset_of(encoded[begin:at])
+            elif name in vars(self):
                 setattr(self, name, text_of(encoded[begin:at]))
 
 
@@ -73,6 +79,14 @@ def span_of(encoded: bytes, at: int, layout: str) -> tuple[int, int]:
         return at + 1, at + 1 + encoded[at]
     (length,) = struct.unpack_from(">I", encoded, at)
     return at + 4, at + 4 + length
+
+
+def offset_of(table: bytes) -> Optional[int]:
+    """Returns the offset of a stream's message by its headers; None if they are other ones."""
+    if len(table) != OFFSET_TABLE.size:
+        return None
+    key, offset = OFFSET_TABLE.unpack(table)
+    return int(offset) if key == OFFSET else None
 
 
 def text_of(value: bytes) -> Text:
