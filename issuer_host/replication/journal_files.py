@@ -1,0 +1,256 @@
+"""The journals of a machine as the rule sees them: what counts of them, and what is beyond.
+
+A record that counts and isn't there is put by a run of `issuer standby`, which checks it as a start checks it. That run
+stays until a host has to begin or a journal is truncated. A truncated journal's seals are truncated with it.
+"""
+import collections
+import contextlib
+import os
+from collections.abc import Callable, Sequence
+from typing import Optional
+
+from issuer_host.journals import MAX_RECORD_LINE, VERSION_LINE, journal_path
+from issuer_host.limits import MAX_SHARDS
+from issuer_host.replication.messages import Record
+from issuer_host.replication.positions import Position
+from issuer_host.run_mark import RunMark, lock_mark
+from issuer_host.service.history_checks import is_locked
+from issuer_host.service.host import Host
+from issuer_host.service.loops import Loop
+from issuer_host.service.refusal import Refusal
+from issuer_host.service.seals import Seals
+from issuer_host.statuses import NOT_AGAIN, Status, meaning_of
+
+PIECE = 1 << 16
+# A run of standby that is to end has so long to take what it was given.
+END_SECONDS = 60.0
+# So many lines wait for a run of standby before no more is read of the stream.
+MOST_WAITING = 1_000
+# With these a run of standby ends in the same way until a person has acted.
+NEED_A_PERSON = (*NOT_AGAIN, Status.BAD_FEED)
+LOOK = "the machines' journals aren't of one history; copy another machine's by deploy/node --copy"
+
+
+class Passing(Exception):
+    """Something failed that passes: the partition begins again from its position."""
+
+
+class Shard:
+    """A shard's journal: how many records of it count, and those beyond them that were read."""
+
+    def __init__(self, journal: str, number: int, count: int, size: int) -> None:
+        self.path = journal_path(journal, number)
+        self.number = number
+        self.count = count
+        # The bytes of what counts.
+        self.size = size
+        self.beyond: collections.deque[str] = collections.deque()
+        # Where what was read ends.
+        self.at = size
+
+    def length(self) -> int:
+        return self.count + len(self.beyond)
+
+    def read_on(self, end: Optional[int] = None) -> list[Record]:
+        """Reads the next records, so that there are so many, or to the journal's end. Returns them."""
+        first = self.length()
+        with open(self.path, "rb") as opened:
+            while end is None or self.length() < end:
+                lines = os.pread(opened.fileno(), PIECE, self.at).split(b"\n")[:-1]
+                taken = lines if end is None else lines[: end - self.length()]
+                if not taken:
+                    break
+                self.beyond.extend(line.decode("latin-1") for line in taken)
+                self.at += sum(len(line) + 1 for line in taken)
+        return [Record(self.number, place, self.text(place)) for place in range(first, self.length())]
+
+    def text(self, place: int) -> str:
+        return self.beyond[place - self.count]
+
+    def counted(self, record: Record) -> None:
+        """The next record counts: the one that was read, or one that was put."""
+        self.count += 1
+        self.size += len(record.text) + 1
+        if self.beyond:
+            self.beyond.popleft()
+        else:
+            self.at = self.size
+
+    def forget_beyond(self, length: int) -> int:
+        """Forgets what was read beyond so many records. Returns where they end."""
+        while self.length() > length:
+            self.at -= len(self.beyond.pop()) + 1
+        return self.at
+
+    def bytes_in_file(self) -> int:
+        return os.path.getsize(self.path)
+
+
+class JournalFiles:
+    """`rule.Journals` over files. `on_fault` gets what ended a run of standby: a Refusal, or what passes."""
+
+    def __init__(
+        self,
+        loop: Loop,
+        journal: str,
+        shards: int,
+        position: Position,
+        standby: Sequence[str],
+        on_fault: Callable[[Exception], object],
+    ) -> None:
+        self.loop = loop
+        self.journal = journal
+        self.command = standby
+        self.on_fault = on_fault
+        counted = zip(range(shards), position.counts, position.sizes)
+        self.shards = [Shard(journal, number, count, size) for number, count, size in counted]
+        self.standby: Optional[Host] = None
+        # What is called when the run of standby has ended that is to end; None if it isn't to end.
+        self.on_ended: Optional[Callable[[], object]] = None
+
+    def open(self) -> None:
+        """Reads what there is beyond what counts. No run has the journals open."""
+        self.locked_mark().close()
+        self.read_all()
+
+    def locked_mark(self) -> RunMark:
+        """Locks the mark of the journals, which says that no run has them open."""
+        mark = lock_mark(self.journal)
+        if mark is None or any(is_locked(shard.path) for shard in self.shards):
+            raise Passing(f"another program has the journals {self.journal} open")
+        return mark
+
+    def read_all(self) -> None:
+        """Reads all journals to their ends, while no line is put to a host."""
+        for shard in self.shards:
+            shard.read_on()
+
+    def recorded(self, ends: "dict[int, int]") -> list[Record]:
+        """Reads the records that a host made: by its answers so many of each shard are durable."""
+        return [record for shard, end in ends.items() for record in self.shards[shard].read_on(end)]
+
+    # What the rule asks
+
+    def length(self, shard: int) -> int:
+        return self.shards[shard].length() if shard < len(self.shards) else 0
+
+    def record(self, shard: int, place: int) -> Record:
+        return Record(shard, place, self.shards[shard].text(place))
+
+    def counted(self, record: Record) -> None:
+        self.shards[record.shard].counted(record)
+
+    def put(self, record: Record) -> None:
+        if record.shard >= len(self.shards) or len(record.text) >= MAX_RECORD_LINE:
+            raise Refusal(
+                f"the stream has a record of shard {record.shard} that no journal here can have: the machines have"
+                " other configurations"
+            )
+        if self.standby is None or not self.standby.is_open or self.standby.is_full():
+            self.end_standby_now()
+            self.standby = Host(self.loop, self.command, lambda _: None, self.standby_ended)
+        self.standby.put(f"{record.shard} {record.place} {record.text}".encode("latin-1"))
+
+    def truncate(self, shard: int, length: int) -> None:
+        found = self.shards[shard]
+        if length < found.count:
+            raise Refusal(f"record {length} of {found.path} counted before, and another counts now: {LOOK}")
+        self.end_standby_now()
+        mark = self.locked_mark()
+        try:
+            cut(found.path, found.forget_beyond(length), length)
+            mark.has_ended()
+        finally:
+            mark.close()
+
+    # The run of standby
+
+    def flush(self) -> None:
+        """Lets the run of standby have what was put."""
+        if self.standby is not None:
+            self.standby.flush()
+
+    def has_room(self) -> bool:
+        return self.standby is None or len(self.standby.unwritten) < MOST_WAITING
+
+    def end_standby(self, then: Callable[[], object]) -> None:
+        """Lets the run of standby take what was put and end. Then, or if there is none, the action is called."""
+        if self.standby is None:
+            then()
+            return
+        self.on_ended = then
+        self.standby.close_when_written()
+
+    def begin_no_host(self) -> None:
+        """What was to be called when the run of standby has ended isn't called."""
+        if self.on_ended is not None:
+            self.on_ended = lambda: None
+
+    def standby_ended(self, status: int, said: str) -> None:
+        self.standby = None
+        then, self.on_ended = self.on_ended, None
+        self.mark_end()
+        if status == Status.OK and then is not None:
+            then()
+        else:
+            self.on_fault(self.fault_of(status, said))
+
+    def end_standby_now(self) -> None:
+        """Has the run of standby take what was put and end, and waits for that."""
+        if self.standby is None:
+            return
+        standby, self.standby, self.on_ended = self.standby, None, None
+        status = standby.finish_now(END_SECONDS)
+        self.mark_end()
+        if status != Status.OK:
+            raise self.fault_of(status, standby.stop_line)
+
+    def kill_standby(self) -> None:
+        """Kills the run of standby: what it hasn't taken is read again."""
+        self.on_ended = None
+        if self.standby is not None:
+            self.standby.kill_now()
+            self.standby = None
+            self.mark_end()
+
+    def mark_end(self) -> None:
+        """No run appends any more."""
+        with contextlib.suppress(OSError):
+            mark = lock_mark(self.journal, creates=False)
+            if mark is not None:
+                mark.has_ended()
+                mark.close()
+
+    def fault_of(self, status: int, said: str) -> Exception:
+        if status in NEED_A_PERSON:
+            return Refusal(f"the records of the stream aren't taken into {self.journal}: {said}: {meaning_of(status)}")
+        return Passing(f"standby ended with {status}, {said or 'without a last line'}: {meaning_of(status)}")
+
+    # What a position says
+
+    def counts(self) -> tuple[int, ...]:
+        return filled([shard.count for shard in self.shards], 0)
+
+    def sizes(self) -> tuple[int, ...]:
+        return filled([shard.size for shard in self.shards], len(VERSION_LINE))
+
+    def are_there(self, position: Position) -> bool:
+        """Whether the journals have what counts at a position."""
+        if self.standby is None:
+            return True
+        return all(shard.bytes_in_file() >= position.sizes[shard.number] for shard in self.shards)
+
+
+def filled(numbers: Sequence[int], last: int) -> tuple[int, ...]:
+    """Returns a number for each shard that can be."""
+    return (*numbers, *(last for _ in range(MAX_SHARDS - len(numbers))))
+
+
+def cut(path: str, size: int, length: int) -> None:
+    """Truncates a journal and its seals durably."""
+    with open(path, "rb+") as opened:
+        opened.truncate(size)
+        os.fsync(opened.fileno())
+    with Seals(path) as seals, seals.locked():
+        if seals.count > length:
+            seals.forget_after(length)

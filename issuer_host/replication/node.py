@@ -1,0 +1,148 @@
+"""Runs all partitions of one machine of several: each is served here, or follows what another machine records.
+
+usage: node NODE.json
+       node --begin NODE.json
+       node --copy FROM TO
+
+A partition's history is its stream at the broker, which deploy/queues declares with --streams. The queue delivers a
+partition's requests to one machine, whose node runs the partition's host; the nodes of the others take what counts into
+their journals, and go on where it ends. No reply is sent before its record counts in the stream.
+
+--begin  creates the journals of partitions that have none, empty, and their positions before the first message of
+         their streams. Once, on each machine; journals that exist have to be the same ones on all of them
+--copy   begins a partition on a new machine: copies the journals FROM of another machine, as far as they count at
+         the position beside them, to TO, which no node may have open. FROM may be in use; if it is copied from
+         elsewhere by other means, its file .position is copied before its journals
+
+NODE.json  the machine's name, the file with the broker's URL, and the partitions; docs/FORMATS.md has its members
+
+Each change of a partition is a line of the error output: `node: partition N: STATE`, and why. STATE is away (no
+connection), reading (what was written meanwhile), waiting (in the line of the queue's consumers), beginning (its
+barrier doesn't count yet), serving, or stopped: that one needs a person, and the others go on.
+
+It ends with 0 at SIGTERM, with 78 if NODE.json is wrong or all partitions are stopped, and with 75 if something failed
+that passes: start it again.
+"""
+import argparse
+import signal
+import sys
+import time
+from collections.abc import Sequence
+from typing import NoReturn
+
+from issuer_host.replication import node_file, positions
+from issuer_host.replication.partition_node import STOPPED, PartitionNode
+from issuer_host.replication.rule import State
+from issuer_host.journals import shards_of_files
+from issuer_host.service.careful_start import shards_of
+from issuer_host.service.figures import Figures
+from issuer_host.service.journal_checks import create_journals
+from issuer_host.service.loops import new_loop
+from issuer_host.service.notices import notify
+from issuer_host.service.readiness import Readiness
+from issuer_host.service.refusal import Refusal, tell
+from issuer_host.statuses import Status
+
+NAME = "node"
+LOOK_SECONDS = 0.5
+STOP_SECONDS = 2.0
+# In these states a partition does its part.
+READY = (State.WAITING.value, State.BEGINNING.value, State.SERVING.value, STOPPED)
+
+
+class Node:
+    """All partitions of a machine, in one loop."""
+
+    def __init__(self, settings: node_file.NodeSettings) -> None:
+        self.status: int = Status.OK
+        self.loop = new_loop()
+        self.keeper = positions.Keeper(self.loop)
+        self.partitions = [
+            PartitionNode(self.loop, settings, one, Figures(one.number, 0, one.journal), self.keeper)
+            for one in settings.partitions
+        ]
+        self.readiness = Readiness(NAME)
+        self.is_stopping = False
+
+    def run(self) -> int:
+        for number in (signal.SIGTERM, signal.SIGINT):
+            signal.signal(number, lambda *_: self.loop.add_callback_threadsafe(self.stop))
+        for partition in self.partitions:
+            partition.guarded(partition.run)
+        self.look()
+        self.loop.start()
+        return self.status
+
+    def look(self) -> None:
+        now = time.monotonic()
+        for partition in self.partitions:
+            partition.guarded(lambda: partition.look(now))
+        states = [partition.state() for partition in self.partitions]
+        if all(state in READY for state in states):
+            self.readiness.tell()
+        self.readiness.look(", ".join(f"{states.count(state)} {state}" for state in sorted(set(states))))
+        if all(state == STOPPED for state in states) and not self.is_stopping:
+            self.status = Status.REFUSED
+            self.loop.stop()
+        self.loop.call_later(LOOK_SECONDS, self.look)
+
+    def stop(self) -> None:
+        """Ends all partitions: another machine goes on."""
+        if self.is_stopping:
+            return
+        self.is_stopping = True
+        notify(NAME, "STOPPING=1")
+        for partition in self.partitions:
+            partition.stop("the node ends")
+        self.loop.call_later(STOP_SECONDS, self.loop.stop)
+
+
+def begin(path: str) -> None:
+    """Creates the positions of all partitions that have none, and the journals of those that have none."""
+    for one in node_file.read(path).partitions:
+        if not shards_of_files(one.journal).journals:
+            create_journals(one.journal, shards_of(one.configuration))
+        found = positions.begin(one.journal)
+        print(f"partition {one.number} begins with {sum(found.counts)} records, {found.digest}")
+
+
+def copy(source: str, target: str) -> None:
+    found = positions.copy(source, target)
+    print(f"{target} has {sum(found.counts)} records, which count up to message {found.offset}")
+
+
+def refuse_words(message: str) -> NoReturn:
+    tell(NAME, message)
+    sys.exit(Status.USAGE)
+
+
+def options_of(words: Sequence[str]) -> argparse.Namespace:
+    parser = argparse.ArgumentParser(usage=__doc__)
+    parser.add_argument("node", nargs="?")
+    which = parser.add_mutually_exclusive_group()
+    which.add_argument("--begin", action="store_true")
+    which.add_argument("--copy", nargs=2)
+    parser.error = refuse_words  # type: ignore[assignment]
+    options = parser.parse_args(words)
+    if bool(options.node) == bool(options.copy):
+        refuse_words("it takes NODE.json, or --copy with two names of journals")
+    return options
+
+
+def run(options: argparse.Namespace) -> int:
+    if options.copy:
+        copy(*options.copy)
+        return Status.OK
+    if options.begin:
+        begin(options.node)
+        return Status.OK
+    return Node(node_file.read(options.node)).run()
+
+
+def main(words: Sequence[str]) -> int:
+    options = options_of(words)
+    try:
+        return run(options)
+    except Refusal as refusal:
+        tell(NAME, str(refusal))
+        return Status.REFUSED

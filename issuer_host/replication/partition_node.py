@@ -1,0 +1,477 @@
+"""One partition on one machine of several: `rule.Outside` over the broker, the host and the journals.
+
+It follows the partition's stream until the queue delivers here and its own barrier counts. Then it runs the host, by
+the careful start, and what the host answers is known to nobody before its records count: no reply is sent, and no next
+line of an order or of an account's decline is put. When another's barrier counts it kills the host, and follows again.
+"""
+import os
+import sys
+import time
+import traceback
+import uuid
+from collections.abc import Callable
+from typing import Optional
+
+from issuer_host.answers import RECORDED
+from issuer_host.paths import HOME
+from issuer_host.replication import positions
+from issuer_host.replication.journal_files import JournalFiles, Passing
+from issuer_host.replication.messages import Message, MessageFault, Records, parse, text_of
+from issuer_host.replication.node_file import NodeSettings, PartitionSettings
+from issuer_host.replication.positions import Position
+from issuer_host.replication.rule import Answer, Bridge, Count, Diverged, Place, State
+from issuer_host.replication.stream import Place as StreamPlace
+from issuer_host.replication.stream import Stream
+from issuer_host.service import broker
+from issuer_host.service.careful_start import shards_of
+from issuer_host.service.faults import lasts
+from issuer_host.service.figures import Figures
+from issuer_host.service.flight import Entry
+from issuer_host.service.link import Link
+from issuer_host.service.loops import Action, Channel, Delivery, Loop, Properties, Step
+from issuer_host.service.passing import without_cards
+from issuer_host.service.refusal import Refusal, tell
+from issuer_host.service.replying import Replying
+from issuer_host.service.reply_mac import ReplyMacs
+from issuer_host.service.serving import Outside, Serving
+from issuer_host.statuses import Status, meaning_of
+
+CAREFUL_START = os.path.join(HOME, "deploy", "issuer-run")
+# What has the node begin that the queue delivers to. It is no request: a publisher can't write it to where it counts.
+WAKE = b"wake"
+# What didn't come back is written again after so long without any message.
+QUIET_SECONDS = 5.0
+# So many messages are read before the loop looks after other partitions.
+PIECE = 50
+# So soon a node sees that its broker is gone.
+HEARTBEAT = 4
+# While a run of standby has as many lines as it may, nothing is read for so long.
+ROOM_SECONDS = 0.02
+# A partition that something failed in begins again after so long, twice as long each time up to a limit; as at first
+# when nothing failed for a while.
+FIRST_DELAY, LAST_DELAY, STEADY_SECONDS = 0.5, 16.0, 60.0
+# Bytes of a reason that the broker is told.
+REASON = 200
+STOPPED = "stopped"
+
+
+class PartitionNode:
+    """A partition's bridge, and its journals."""
+
+    def __init__(
+        self, loop: Loop, node: NodeSettings, settings: PartitionSettings, figures: Figures, keeper: positions.Keeper
+    ) -> None:
+        self.loop = loop
+        self.keeper = keeper
+        self.node = node
+        self.settings = settings
+        self.figures = figures
+        self.name = f"node: partition {settings.number}"
+        self.queue = broker.queue_of(settings.number)
+        parameters = broker.parameters_of(node.broker_file)
+        parameters.heartbeat = HEARTBEAT
+        self.link = Link(loop, parameters, self.steps_of, self.ready_link, self.lost)
+        macs = ReplyMacs(node.broker_file)
+        self.replying = Replying(loop, self.link, macs, figures, lambda: None, self.name)
+        outside = Outside(
+            self.replying.send,
+            self.replying.is_current,
+            self.host_is_loaded,
+            lambda: None,
+            self.give_up,
+            self.pass_on,
+            self.host_ended,
+            self.why_no_order,
+        )
+        command = self.command("serve", "--requests", "--callers", str(settings.callers))
+        self.serving = Serving(loop, command, settings.journal, figures, settings.orders, outside, self.name)
+        # They are there once the position was read.
+        self.journals: Optional[JournalFiles] = None
+        self.stream: Optional[Stream] = None
+        self.bridge: Optional[Bridge] = None
+        self.is_stopped = False
+        # Whether there is something to read, and the loop comes to it.
+        self.is_called = False
+        self.consumer = ""
+        # Before this time the partition doesn't begin again.
+        self.not_before = 0.0
+        self.delay = 0.0
+        # When a message was read or written last, and up to which sequence what was written was written again.
+        self.heard = 0.0
+        self.rewritten = 0
+        self.looks = 0
+        # The host's answers of this turn of the loop.
+        self.answers: "list[tuple[str, Action]]" = []
+        # The position that is written next, whether one is being written, and the last one that was.
+        self.waiting: Optional[Position] = None
+        self.is_keeping = False
+        self.kept: Optional[Position] = None
+        # The state that was told, and why it is so.
+        self.told_state = ""
+        self.told = ""
+
+    def command(self, word: str, feed: str, *more: str) -> "list[str]":
+        """Returns a command of the careful start, with its lines from its input."""
+        begin = [CAREFUL_START, *(["--program", self.node.program] if self.node.program else [])]
+        files = ["--config", self.settings.configuration, feed, "/dev/stdin", "--journal", self.settings.journal]
+        return [*begin, word, *files, *more]
+
+    def run(self) -> None:
+        """Begins: opens the socket of orders, and connects."""
+        self.serving.begin()
+        self.link.open()
+
+    def guarded(self, step: Callable[[], object]) -> None:
+        """Takes a step. What fails in it stops this partition alone, for good or for a while.
+
+        A fault that nobody thought of ends the process: pika would take it for a lost connection, with half of a
+        message taken.
+        """
+        try:
+            if not self.is_stopped:
+                step()
+        except (Refusal, Diverged, MessageFault) as fault:
+            self.stop(str(fault))
+        except Passing as fault:
+            self.begin_again(str(fault))
+        except OSError as fault:
+            said = f"{fault.filename or 'the journals'}: {fault.strerror}"
+            self.stop(said) if lasts(fault) else self.begin_again(said)
+        except Exception:
+            sys.stderr.write(without_cards(traceback.format_exc()))
+            sys.stderr.flush()
+            os._exit(Status.PASSES)
+
+    # The connection
+
+    def steps_of(self, channel: Channel) -> "list[Step]":
+        return broker.find_partition(channel, self.settings.number)
+
+    def ready_link(self, channel: Channel) -> None:
+        wait = self.not_before - time.monotonic()
+        if wait <= 0:
+            self.guarded(lambda: self.connected(channel))
+        else:
+            self.loop.call_later(wait, lambda: self.ready_link(channel) if self.link.channel is channel else None)
+
+    def connected(self, channel: Channel) -> None:
+        if self.bridge is None:
+            self.load()
+        assert self.bridge is not None and self.stream is not None
+        channel.basic_qos(prefetch_count=self.node.window)
+        self.heard = time.monotonic()
+        self.stream.open(self.link.connection)
+        if self.stream.place.offset == positions.BEFORE:
+            self.stream.write(positions.first_text(self.stream.place.digest))
+        self.bridge.connected()
+        self.tell_state()
+
+    def load(self) -> None:
+        """Begins at the position beside the journals."""
+        journal = self.settings.journal
+        position = positions.read(journal)
+        shards = shards_of(self.settings.configuration)
+        self.journals = JournalFiles(
+            self.loop, journal, shards, position, self.command("standby", "--feed"), self.failed
+        )
+        self.journals.open()
+        place = StreamPlace(position.offset, position.digest)
+        self.stream = Stream(self.loop, broker.stream_of(self.settings.number), place, self.call, self.complain)
+        self.bridge = Bridge(self.node.machine, Count(position.barrier, position.counts), self.journals, self)
+        self.kept = position
+
+    def lost(self, reason: Exception) -> None:
+        self.guarded(lambda: self.disconnected(str(reason)))
+
+    def disconnected(self, why: str) -> None:
+        """The connection is lost: what is delivered again is so here or elsewhere."""
+        self.consumer = ""
+        self.replying.flight.clear()
+        if self.stream is not None and self.bridge is not None:
+            self.figures.losses.inc()
+            self.stream.lost()
+            self.bridge.disconnected()
+        self.tell_state(why)
+
+    # The stream
+
+    def call(self) -> None:
+        """Has the loop come to what was delivered."""
+        if not self.is_called:
+            self.is_called = True
+            self.loop.add_callback_threadsafe(lambda: self.guarded(self.read_on))
+
+    def read_on(self) -> None:
+        self.is_called = False
+        for _ in range(PIECE):
+            if self.journals is None or self.stream is None:
+                return
+            if not self.journals.has_room():
+                self.loop.call_later(ROOM_SECONDS, self.call)
+                break
+            body = self.stream.next()
+            if body is None:
+                break
+            self.read(parse(body.decode("latin-1")))
+        else:
+            self.call()
+        if self.journals is not None:
+            self.journals.flush()
+
+    def read(self, message: Message) -> None:
+        assert self.bridge is not None
+        self.heard = time.monotonic()
+        self.bridge.read(message)
+        if self.is_gap(message):
+            self.write_again()
+        self.tell_state()
+
+    def is_gap(self, message: Message) -> bool:
+        """Whether a message of this bridge doesn't count, since one before it was lost."""
+        bridge = self.bridge
+        if bridge is None or bridge.state is not State.SERVING or not isinstance(message, Records):
+            return False
+        if message.name != bridge.barrier.name or message.sequence <= self.rewritten:
+            return False
+        return not all(bridge.count.has(*record.at) for record in message.records)
+
+    def write_again(self) -> None:
+        """Writes what didn't come back on a new channel."""
+        if self.bridge is not None and self.stream is not None:
+            self.heard = time.monotonic()
+            self.rewritten = self.bridge.sequence
+            self.stream.write_anew()
+            self.bridge.write_again()
+
+    # What the rule asks
+
+    def publish(self, message: Message) -> None:
+        assert self.stream is not None
+        self.stream.write(text_of(message))
+
+    def new_name(self) -> str:
+        return uuid.uuid4().hex
+
+    def ready(self) -> None:
+        """Stands in the line of the queue's consumers, at its end, and wakes who is the first there."""
+        if self.link.channel is None:
+            return
+        if self.consumer:
+            self.link.begin_anew("another machine serves the partition")
+            return
+        self.consumer = self.link.channel.basic_consume(self.queue, self.take)
+        self.wake()
+
+    def begin_host(self) -> None:
+        assert self.journals is not None
+        self.journals.end_standby(lambda: self.guarded(self.start_host))
+
+    def end_host(self) -> None:
+        assert self.journals is not None
+        self.answers.clear()
+        self.replying.flight.clear()
+        self.serving.kill()
+        self.journals.begin_no_host()
+        self.journals.read_all()
+
+    def reply(self, answer: Answer) -> None:
+        assert callable(answer.request)
+        answer.request()
+
+    # The queue
+
+    def wake(self) -> None:
+        if self.link.channel is not None:
+            self.link.wake(broker.RECORDS, self.queue, WAKE)
+
+    def take(self, _: Channel, delivery: Delivery, properties: Properties, body: bytes) -> None:
+        entry = Entry(delivery, properties, body)
+        self.replying.flight.add(entry)
+        self.guarded(lambda: self.delivered(entry))
+
+    def delivered(self, entry: Entry) -> None:
+        assert self.bridge is not None
+        if entry.line == WAKE and not entry.reply_to:
+            self.replying.settle(entry, True)
+        elif self.serving.is_served:
+            self.serve(entry)
+        self.bridge.called()
+        self.tell_state()
+
+    def serve(self, entry: Entry) -> None:
+        if not entry.reply_to or not self.serving.take(entry):
+            self.figures.bodies.inc()
+            self.replying.settle(entry, False)
+
+    # The host
+
+    def start_host(self) -> None:
+        """Starts the host, which gets what was delivered so far."""
+        assert self.bridge is not None
+        if self.bridge.state is State.SERVING:
+            self.serving.is_served = True
+            for entry in list(self.replying.flight.entries):
+                if entry.settled is None:
+                    self.serve(entry)
+            self.serving.hosting.want()
+
+    def host_is_loaded(self) -> None:
+        if self.journals is not None and self.bridge is not None and self.serving.hosting.host is not None:
+            self.journals.read_all()
+            self.bridge.host_loaded()
+
+    def host_ended(self) -> None:
+        self.answers.clear()
+        if self.bridge is not None:
+            self.bridge.host_ended()
+
+    def pass_on(self, text: str, take: Action) -> None:
+        """Takes a host's answer: those of one turn of the loop are written together."""
+        if not self.answers:
+            self.loop.add_callback_threadsafe(lambda: self.guarded(self.pass_answers))
+        self.answers.append((text, take))
+
+    def pass_answers(self) -> None:
+        """Writes the records that the answers say are durable, and lets the answers wait for them."""
+        answers, self.answers = self.answers, []
+        if self.journals is None or self.bridge is None:
+            return
+        ends: "dict[int, int]" = {}
+        for text, _ in answers:
+            place = place_of(text)
+            if place is not None:
+                ends[place[0]] = max(ends.get(place[0], 0), place[1] + 1)
+        records = self.journals.recorded(ends)
+        if records:
+            self.heard = time.monotonic()
+            self.bridge.recorded(records)
+        for text, take in answers:
+            self.bridge.answered(Answer(take, text, place_of(text)))
+
+    def give_up(self, status: int) -> None:
+        """The host ended with a status with which a new one would end too, or its journals can't be seen."""
+        if status == Status.PASSES:
+            self.begin_again(meaning_of(status))
+        else:
+            self.stop(f"the host ended with {int(status)}: {meaning_of(status)}")
+
+    def why_no_order(self) -> str:
+        if self.serving.is_served:
+            return ""
+        self.wake()
+        return "this machine doesn't serve the partition: order at the one that does, or here in a moment"
+
+    # Time
+
+    def look(self, now: float) -> None:
+        """A look every half second."""
+        if self.bridge is None or self.stream is None:
+            return
+        self.keep_position()
+        if self.link.channel is not None and now - self.heard > QUIET_SECONDS and self.is_owed():
+            if not self.stream.is_compared:
+                self.stream.probe()
+            self.write_again()
+        self.looks += 1
+        if self.looks % 2 == 0:
+            self.serving.look()
+        self.figures.in_flight.set(len(self.replying.flight))
+        self.figures.oldest.set(self.replying.flight.age(now))
+        if self.bridge.state in (State.WAITING, State.SERVING) and now - self.not_before > STEADY_SECONDS:
+            self.delay = 0.0
+
+    def is_owed(self) -> bool:
+        """Whether something was written that didn't come back."""
+        assert self.bridge is not None
+        if self.bridge.state in (State.READING, State.BEGINNING):
+            return True
+        return self.bridge.state is State.SERVING and any(True for _ in self.bridge.last_uncounted())
+
+    def keep_position(self) -> None:
+        """Writes a position, once the journals have what counts there."""
+        assert self.bridge is not None and self.stream is not None and self.journals is not None
+        if self.waiting is None:
+            counts, sizes = self.journals.counts(), self.journals.sizes()
+            self.waiting = Position(*self.stream.place, self.bridge.count.barrier, counts, sizes)
+        position, before = self.waiting, self.kept
+        if self.is_keeping or not self.journals.are_there(position):
+            return
+        self.waiting = None
+        if before is None or position == before:
+            return
+        # (what a standby appended may not be durable yet)
+        grown = [shard for shard, size in enumerate(position.sizes) if size > before.sizes[shard]]
+        self.is_keeping = True
+        journal = self.settings.journal
+        self.keeper.add(
+            lambda: positions.keep(journal, position, grown), lambda fault: self.position_kept(position, fault)
+        )
+
+    def position_kept(self, position: Position, fault: Optional[OSError]) -> None:
+        self.is_keeping = False
+        if fault is None:
+            self.kept = position
+        else:
+            self.complain(f"the position can't be written: {fault.strerror}")
+
+    # The end
+
+    def failed(self, fault: Exception) -> None:
+        def fail() -> None:
+            raise fault
+
+        self.guarded(fail)
+
+    def begin_again(self, why: str) -> None:
+        """Begins again from the position that was written, after a while."""
+        self.delay = min(max(2 * self.delay, FIRST_DELAY), LAST_DELAY)
+        self.not_before = time.monotonic() + self.delay
+        self.end_all()
+        self.link.begin_anew(why[:REASON])
+        self.tell_state(why)
+
+    def end_all(self) -> None:
+        """Ends what runs over the journals. Nobody is answered."""
+        self.consumer = ""
+        self.answers.clear()
+        self.replying.flight.clear()
+        self.serving.kill()
+        if self.journals is not None:
+            self.journals.kill_standby()
+        if self.stream is not None:
+            self.stream.lost()
+        self.journals = self.stream = self.bridge = None
+        self.waiting = None
+
+    def stop(self, why: str) -> None:
+        """Stops this partition until the node is started again."""
+        self.is_stopped = True
+        self.end_all()
+        self.serving.stop()
+        self.link.close(lambda: None)
+        self.tell_state(why)
+
+    # What is told
+
+    def state(self) -> str:
+        if self.is_stopped:
+            return STOPPED
+        return State.AWAY.value if self.bridge is None else self.bridge.state.value
+
+    def tell_state(self, why: str = "") -> None:
+        """Tells a state that is new, or is so for another reason."""
+        state = self.state()
+        if state != self.told_state or why and why != self.told:
+            tell(self.name, f"{state}: {why}" if why else state)
+            self.told = why
+        self.told_state = state
+
+    def complain(self, why: str) -> None:
+        """Tells what goes wrong in a state, once."""
+        self.tell_state(why)
+
+
+def place_of(answer: str) -> Optional[Place]:
+    """Returns the shard and the place of the record that an answer names, if it names one."""
+    words = answer.split(" ", 3)
+    return (int(words[1]), int(words[2])) if words[0] in RECORDED else None

@@ -1,0 +1,201 @@
+"""A machine's position in a partition's stream, in a file beside the journals.
+
+`JOURNAL.position` says up to which message the journals have what counts: the message's offset and digest, the last
+barrier that counts there, how many records of each shard count, and how many bytes of its journal these are. It may be
+behind the journals, and never before them. Before the first message the digest is that of the journals that the
+partition begins with: all machines begin with the same ones.
+"""
+import functools
+import hashlib
+import json
+import os
+import queue
+import threading
+from collections.abc import Callable, Iterable
+from typing import Any, NamedTuple, Optional
+
+from issuer_host.journals import VERSION_LINE, journal_path, shards_of_files
+from issuer_host.limits import MAX_SHARDS
+from issuer_host.replication.messages import NAME, Barrier, Mark, text_of
+from issuer_host.replication.rule import NO_BARRIER
+from issuer_host.service.loops import Loop
+from issuer_host.service.refusal import Refusal
+
+ENDING = ".position"
+# The offset before the first message.
+BEFORE = -1
+DIGITS = 32
+BASE = "base."
+PIECE = 1 << 20
+
+
+class Position(NamedTuple):
+    """A place in a stream, and what of the journals counts there."""
+
+    offset: int
+    digest: str
+    barrier: Barrier
+    counts: tuple[int, ...]
+    sizes: tuple[int, ...]
+
+
+def first_text(digest: str) -> str:
+    """Returns the message that the stream of a partition begins with, by the digest of its first journals."""
+    return text_of(Mark(BASE + digest))
+
+
+def digest_of(body: bytes) -> str:
+    return hashlib.sha256(body).hexdigest()[:DIGITS]
+
+
+def position_path(journal: str) -> str:
+    return journal + ENDING
+
+
+def read(journal: str) -> Position:
+    """Returns the position beside journals. Refuses one that is missing, or that isn't behind the journals."""
+    path = position_path(journal)
+    try:
+        with open(path, encoding="utf-8") as text:
+            found = position_of(json.load(text))
+    except FileNotFoundError as fault:
+        raise Refusal(
+            f"there is no {path}: begin the partition by deploy/node --begin, once, on all machines with the same"
+            " journals, or copy another machine's journals by deploy/node --copy"
+        ) from fault
+    except (ValueError, KeyError, TypeError) as fault:
+        raise Refusal(f"{path} is no position: copy another machine's journals by deploy/node --copy") from fault
+    check(journal, found)
+    return found
+
+
+def position_of(said: "dict[str, Any]") -> Position:
+    """Returns the position that a file says. Another one is a ValueError, a KeyError or a TypeError."""
+    barrier = Barrier(*said["barrier"])
+    counts, sizes = tuple(said["counts"]), tuple(said["sizes"])
+    numbers = (said["offset"], barrier.number, *counts, *sizes)
+    if not all(type(one) is int and one >= BEFORE for one in numbers):
+        raise ValueError("a number")
+    if len(counts) != MAX_SHARDS or len(sizes) != MAX_SHARDS:
+        raise ValueError("a length")
+    if barrier != NO_BARRIER and not NAME.fullmatch(barrier.name):
+        raise ValueError("a name")
+    return Position(said["offset"], str(said["digest"]), barrier, counts, sizes)
+
+
+def check(journal: str, position: Position) -> None:
+    """Refuses a position whose records the journals lack."""
+    for shard, (count, size) in enumerate(zip(position.counts, position.sizes)):
+        if count and not ends_line(journal_path(journal, shard), size):
+            raise Refusal(
+                f"{journal_path(journal, shard)} hasn't the {count} records that {position_path(journal)} counts: copy"
+                " another machine's journals by deploy/node --copy"
+            )
+
+
+def ends_line(path: str, size: int) -> bool:
+    """Whether a file has a line that ends after so many bytes."""
+    try:
+        with open(path, "rb") as opened:
+            return os.pread(opened.fileno(), 1, size - 1) == b"\n"
+    except FileNotFoundError:
+        return False
+
+
+def write(journal: str, position: Position) -> None:
+    """Puts a position in place of the one before, durably."""
+    path = position_path(journal)
+    new = path + ".new"
+    flags = os.O_WRONLY | os.O_CREAT | os.O_TRUNC | os.O_NOFOLLOW | os.O_CLOEXEC
+    with open(os.open(new, flags, 0o600), "w", encoding="utf-8") as to:
+        to.write(json.dumps(position._asdict()) + "\n")
+        to.flush()
+        os.fsync(to.fileno())
+    os.replace(new, path)
+
+
+def keep(journal: str, position: Position, grown: Iterable[int]) -> None:
+    """Writes a position, once what counts there of the journals that have grown is durable."""
+    for shard in grown:
+        with open(journal_path(journal, shard), "rb") as opened:
+            os.fdatasync(opened.fileno())
+    write(journal, position)
+
+
+class Keeper:
+    """Writes positions in a thread of its own: a disk that is slow holds no partition up."""
+
+    def __init__(self, loop: Loop) -> None:
+        self.loop = loop
+        self.tasks: "queue.SimpleQueue[tuple[Callable[[], None], Callable[[Optional[OSError]], object]]]" = (
+            queue.SimpleQueue()
+        )
+        threading.Thread(target=self.work, daemon=True, name="positions").start()
+
+    def add(self, task: Callable[[], None], then: Callable[[Optional[OSError]], object]) -> None:
+        """Does a task, and calls back with what it failed by, or None."""
+        self.tasks.put((task, then))
+
+    def work(self) -> None:
+        while True:
+            task, then = self.tasks.get()
+            fault: Optional[OSError] = None
+            try:
+                task()
+            except OSError as failed:
+                fault = failed
+            self.loop.add_callback_threadsafe(functools.partial(then, fault))
+
+
+def begin(journal: str) -> Position:
+    """Creates the position before a stream's first message, of journals that no host writes."""
+    if os.path.exists(position_path(journal)):
+        raise Refusal(f"{position_path(journal)} exists: the partition has begun here")
+    counts, sizes = [0] * MAX_SHARDS, [len(VERSION_LINE)] * MAX_SHARDS
+    total = hashlib.sha256()
+    for shard in shards_of_files(journal).journals:
+        counts[shard], sizes[shard], digest = measured(journal_path(journal, shard))
+        total.update(f"{shard} {counts[shard]} {digest}\n".encode() if counts[shard] else b"")
+    found = Position(BEFORE, total.hexdigest()[:DIGITS], NO_BARRIER, tuple(counts), tuple(sizes))
+    write(journal, found)
+    return found
+
+
+def measured(path: str) -> tuple[int, int, str]:
+    """Returns how many records a journal has, its bytes, and their digest. A torn last line is refused."""
+    total = hashlib.sha256()
+    lines, last = -1, b"\n"
+    with open(path, "rb") as opened:
+        while piece := opened.read(PIECE):
+            total.update(piece)
+            lines += piece.count(b"\n")
+            last = piece[-1:]
+        if last != b"\n":
+            raise Refusal(f"{path} ends within a line: start its host once, or show it, and begin after that")
+        return max(lines, 0), max(opened.tell(), len(VERSION_LINE)), total.hexdigest()
+
+
+def copy(source: str, target: str) -> Position:
+    """Copies the position of other journals, and as much of these as counts there.
+
+    The position comes first: what counts there stays in journals that a node goes on writing.
+    """
+    if shards_of_files(target).journals or os.path.exists(position_path(target)):
+        raise Refusal(f"there are journals {target}, or a position: move them away")
+    found = read(source)
+    for shard in shards_of_files(source).journals:
+        copy_bytes(journal_path(source, shard), journal_path(target, shard), found.sizes[shard])
+    check(target, found)
+    write(target, found)
+    return found
+
+
+def copy_bytes(source: str, target: str, size: int) -> None:
+    """Copies the first bytes of a file to a new one, durably."""
+    flags = os.O_WRONLY | os.O_CREAT | os.O_EXCL | os.O_CLOEXEC
+    with open(source, "rb") as opened, open(os.open(target, flags, 0o600), "wb") as to:
+        while size and (piece := opened.read(min(size, PIECE))):
+            to.write(piece)
+            size -= len(piece)
+        to.flush()
+        os.fsync(to.fileno())
