@@ -7,6 +7,8 @@ from typing import NamedTuple, Optional, Union
 # A journal's name ends so: a dot, the shard's number in two digits, and the version.
 SHARD = re.compile(r"\.(?P<shard>\d{2})(?P<version>\.v2)?")
 ENDING = ".v2"
+# A file of this ending beside the journals is a node's: they are written by the order of a stream alone.
+POSITION = ".position"
 # The first line of a journal. An old journal, of version 1, has none.
 VERSION_LINE = "v2\n"
 # Bytes of a record's line, its newline included.

@@ -8,8 +8,7 @@ import collections
 from collections.abc import Callable, Iterator
 from typing import NamedTuple, Optional
 
-from issuer_host.limits import MAX_SHARDS
-from issuer_host.replication.messages import Barrier, Message, Record
+from issuer_host.replication.messages import LOGS, Barrier, Message, Record
 from issuer_host.replication.rule import Answer, Bridge, Count, State
 
 COUNTERS = ("7", "8", "9")
@@ -42,10 +41,10 @@ class Node:
         self.world = world
         self.number = number
         self.kind = bridge
-        self.held: list[list[Record]] = [[] for _ in range(MAX_SHARDS)]
+        self.held: list[list[Record]] = [[] for _ in range(LOGS)]
         self.written: collections.deque[Message] = collections.deque()
         self.position = 0
-        self.kept = Kept(0, Count().barrier, (0,) * MAX_SHARDS)
+        self.kept = Kept(0, Count().barrier, (0,) * LOGS)
         self.names = 0
         self.is_in_line = False
         self.has_host = False
@@ -163,7 +162,7 @@ class World:
         self.replies: dict[str, str] = {}
         # Reads each message as the broker takes it.
         self.truth = bridge("truth", Count(), Shelf(), Nobody()).count
-        self.history: list[list[Record]] = [[] for _ in range(MAX_SHARDS)]
+        self.history: list[list[Record]] = [[] for _ in range(LOGS)]
         self.nodes = [Node(self, number, bridge) for number in range(machines)]
 
     def replied(self, answer: Answer) -> None:

@@ -7,11 +7,11 @@ import collections
 import contextlib
 import os
 from collections.abc import Callable, Sequence
-from typing import Optional
+from typing import Optional, Union
 
 from issuer_host.journals import MAX_RECORD_LINE, VERSION_LINE, journal_path
-from issuer_host.limits import MAX_SHARDS
-from issuer_host.replication.messages import Record
+from issuer_host.replication.messages import NOTES, Record
+from issuer_host.replication.notes import Notes
 from issuer_host.replication.positions import Position
 from issuer_host.run_mark import RunMark, lock_mark
 from issuer_host.service.history_checks import is_locked
@@ -104,6 +104,7 @@ class JournalFiles:
         self.on_fault = on_fault
         counted = zip(range(shards), position.counts, position.sizes)
         self.shards = [Shard(journal, number, count, size) for number, count, size in counted]
+        self.notes = Notes(journal, position.counts[NOTES])
         self.standby: Optional[Host] = None
         # What is called when the run of standby has ended that is to end; None if it isn't to end.
         self.on_ended: Optional[Callable[[], object]] = None
@@ -112,6 +113,7 @@ class JournalFiles:
         """Reads what there is beyond what counts. No run has the journals open."""
         self.locked_mark().close()
         self.read_all()
+        self.notes.open()
 
     def locked_mark(self) -> RunMark:
         """Locks the mark of the journals, which says that no run has them open."""
@@ -131,16 +133,22 @@ class JournalFiles:
 
     # What the rule asks
 
+    def log(self, shard: int) -> "Union[Shard, Notes]":
+        return self.notes if shard == NOTES else self.shards[shard]
+
     def length(self, shard: int) -> int:
-        return self.shards[shard].length() if shard < len(self.shards) else 0
+        return self.log(shard).length() if shard == NOTES or shard < len(self.shards) else 0
 
     def record(self, shard: int, place: int) -> Record:
-        return Record(shard, place, self.shards[shard].text(place))
+        return Record(shard, place, self.log(shard).text(place))
 
     def counted(self, record: Record) -> None:
-        self.shards[record.shard].counted(record)
+        self.log(record.shard).counted(record)
 
     def put(self, record: Record) -> None:
+        if record.shard == NOTES:
+            self.notes.append(record.text)
+            return
         if record.shard >= len(self.shards) or len(record.text) >= MAX_RECORD_LINE:
             raise Refusal(
                 f"the stream has a record of shard {record.shard} that no journal here can have: the machines have"
@@ -152,9 +160,12 @@ class JournalFiles:
         self.standby.put(f"{record.shard} {record.place} {record.text}".encode("latin-1"))
 
     def truncate(self, shard: int, length: int) -> None:
+        if length < self.log(shard).count:
+            raise Refusal(f"record {length} of {self.log(shard).path} counted before, and another counts now: {LOOK}")
+        if shard == NOTES:
+            self.notes.truncate(length)
+            return
         found = self.shards[shard]
-        if length < found.count:
-            raise Refusal(f"record {length} of {found.path} counted before, and another counts now: {LOOK}")
         self.end_standby_now()
         mark = self.locked_mark()
         try:
@@ -229,10 +240,15 @@ class JournalFiles:
     # What a position says
 
     def counts(self) -> tuple[int, ...]:
-        return filled([shard.count for shard in self.shards], 0)
+        return (*filled([shard.count for shard in self.shards], 0), self.notes.count)
 
     def sizes(self) -> tuple[int, ...]:
-        return filled([shard.size for shard in self.shards], len(VERSION_LINE))
+        return (*filled([shard.size for shard in self.shards], len(VERSION_LINE)), 0)
+
+    def grown(self, before: Position, position: Position) -> "list[str]":
+        """Returns the files of which more counts at a position than at the one before."""
+        logs: "list[Union[Shard, Notes]]" = [*self.shards, self.notes]
+        return [log.path for log in logs if position.counts[log.number] > before.counts[log.number]]
 
     def are_there(self, position: Position) -> bool:
         """Whether the journals have what counts at a position."""
@@ -243,7 +259,7 @@ class JournalFiles:
 
 def filled(numbers: Sequence[int], last: int) -> tuple[int, ...]:
     """Returns a number for each shard that can be."""
-    return (*numbers, *(last for _ in range(MAX_SHARDS - len(numbers))))
+    return (*numbers, *(last for _ in range(NOTES - len(numbers))))
 
 
 def cut(path: str, size: int, length: int) -> None:

@@ -4,6 +4,8 @@
     records NAME SEQUENCE           and feed lines, SHARD PLACE RECORD: what the host of that bridge recorded
     mark WORD                       nothing; who wrote it knows how far it has read
 
+The shard past the greatest one has the notes of work on cards (`notes`): they count as records do.
+
 A name is new for each barrier. A sequence only tells messages apart.
 """
 import re
@@ -11,6 +13,9 @@ from typing import NamedTuple, Union
 
 from issuer_host.limits import MAX_SHARDS
 
+# A partition's records: those of its shards' journals, and the notes of work on cards as one more shard.
+NOTES = MAX_SHARDS
+LOGS = MAX_SHARDS + 1
 NAME = re.compile(r"[0-9A-Za-z_.-]{1,64}")
 NUMBER = re.compile(r"0|[1-9][0-9]{0,17}")
 
@@ -80,7 +85,7 @@ def parse(text: str) -> Message:
 def record_of(line: str) -> Record:
     shard, _, rest = line.partition(" ")
     place, _, text = rest.partition(" ")
-    if not text or number_of(shard) >= MAX_SHARDS:
+    if not text or number_of(shard) >= LOGS:
         raise MessageFault(f"no feed line is {line[:40]!r}")
     return Record(number_of(shard), number_of(place), text)
 

@@ -16,14 +16,15 @@ from issuer_host.answers import RECORDED
 from issuer_host.paths import HOME
 from issuer_host.replication import positions
 from issuer_host.replication.journal_files import JournalFiles, Passing
-from issuer_host.replication.messages import Message, MessageFault, Records, parse, text_of
+from issuer_host.replication.messages import NOTES, Message, MessageFault, Record, Records, parse, text_of
 from issuer_host.replication.node_file import NodeSettings, PartitionSettings
+from issuer_host.replication.notes import NotedWork, Notes
 from issuer_host.replication.positions import Position
 from issuer_host.replication.rule import Answer, Bridge, Count, Diverged, Place, State
 from issuer_host.replication.stream import Place as StreamPlace
 from issuer_host.replication.stream import Stream
 from issuer_host.service import broker
-from issuer_host.service.careful_start import shards_of
+from issuer_host.service.careful_start import NODE, shards_of
 from issuer_host.service.faults import lasts
 from issuer_host.service.figures import Figures
 from issuer_host.service.flight import Entry
@@ -84,7 +85,8 @@ class PartitionNode:
             self.why_no_order,
         )
         command = self.command("serve", "--requests", "--callers", str(settings.callers))
-        self.serving = Serving(loop, command, settings.journal, figures, settings.orders, outside, self.name)
+        file = NotedWork(settings.journal, self.notes, self.noted, self.when_noted)
+        self.serving = Serving(loop, command, settings.journal, figures, settings.orders, outside, self.name, file)
         # They are there once the position was read.
         self.journals: Optional[JournalFiles] = None
         self.stream: Optional[Stream] = None
@@ -112,7 +114,7 @@ class PartitionNode:
 
     def command(self, word: str, feed: str, *more: str) -> "list[str]":
         """Returns a command of the careful start, with its lines from its input."""
-        begin = [CAREFUL_START, *(["--program", self.node.program] if self.node.program else [])]
+        begin = [CAREFUL_START, NODE, *(["--program", self.node.program] if self.node.program else [])]
         files = ["--config", self.settings.configuration, feed, "/dev/stdin", "--journal", self.settings.journal]
         return [*begin, word, *files, *more]
 
@@ -348,6 +350,20 @@ class PartitionNode:
         for text, take in answers:
             self.bridge.answered(Answer(take, text, place_of(text)))
 
+    def notes(self) -> Notes:
+        assert self.journals is not None
+        return self.journals.notes
+
+    def noted(self, note: Record) -> None:
+        if self.bridge is not None:
+            self.bridge.recorded([note])
+
+    def when_noted(self, action: Action) -> None:
+        """Does something once all notes count."""
+        if self.bridge is not None:
+            last = self.notes().length() - 1
+            self.bridge.answered(Answer(action, "", (NOTES, last) if last >= 0 else None))
+
     def give_up(self, status: int) -> None:
         """The host ended with a status with which a new one would end too, or its journals can't be seen."""
         if status == Status.PASSES:
@@ -368,10 +384,11 @@ class PartitionNode:
         if self.bridge is None or self.stream is None:
             return
         self.keep_position()
-        if self.link.channel is not None and now - self.heard > QUIET_SECONDS and self.is_owed():
+        if self.link.channel is not None and now - self.heard > QUIET_SECONDS:
             if not self.stream.is_compared:
                 self.stream.probe()
-            self.write_again()
+            if self.is_owed():
+                self.write_again()
         self.looks += 1
         if self.looks % 2 == 0:
             self.serving.look()
@@ -400,7 +417,7 @@ class PartitionNode:
         if before is None or position == before:
             return
         # (what a standby appended may not be durable yet)
-        grown = [shard for shard, size in enumerate(position.sizes) if size > before.sizes[shard]]
+        grown = self.journals.grown(before, position)
         self.is_keeping = True
         journal = self.settings.journal
         self.keeper.add(

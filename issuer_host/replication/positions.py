@@ -14,14 +14,13 @@ import threading
 from collections.abc import Callable, Iterable
 from typing import Any, NamedTuple, Optional
 
-from issuer_host.journals import VERSION_LINE, journal_path, shards_of_files
-from issuer_host.limits import MAX_SHARDS
-from issuer_host.replication.messages import NAME, Barrier, Mark, text_of
+from issuer_host.journals import POSITION, VERSION_LINE, journal_path, shards_of_files
+from issuer_host.replication.messages import LOGS, NAME, NOTES, Barrier, Mark, text_of
+from issuer_host.replication.notes import read_notes, write_notes
 from issuer_host.replication.rule import NO_BARRIER
 from issuer_host.service.loops import Loop
 from issuer_host.service.refusal import Refusal
 
-ENDING = ".position"
 # The offset before the first message.
 BEFORE = -1
 DIGITS = 32
@@ -49,7 +48,7 @@ def digest_of(body: bytes) -> str:
 
 
 def position_path(journal: str) -> str:
-    return journal + ENDING
+    return journal + POSITION
 
 
 def read(journal: str) -> Position:
@@ -76,7 +75,7 @@ def position_of(said: "dict[str, Any]") -> Position:
     numbers = (said["offset"], barrier.number, *counts, *sizes)
     if not all(type(one) is int and one >= BEFORE for one in numbers):
         raise ValueError("a number")
-    if len(counts) != MAX_SHARDS or len(sizes) != MAX_SHARDS:
+    if len(counts) != LOGS or len(sizes) != LOGS:
         raise ValueError("a length")
     if barrier != NO_BARRIER and not NAME.fullmatch(barrier.name):
         raise ValueError("a name")
@@ -85,7 +84,7 @@ def position_of(said: "dict[str, Any]") -> Position:
 
 def check(journal: str, position: Position) -> None:
     """Refuses a position whose records the journals lack."""
-    for shard, (count, size) in enumerate(zip(position.counts, position.sizes)):
+    for shard, (count, size) in enumerate(zip(position.counts[:NOTES], position.sizes)):
         if count and not ends_line(journal_path(journal, shard), size):
             raise Refusal(
                 f"{journal_path(journal, shard)} hasn't the {count} records that {position_path(journal)} counts: copy"
@@ -114,10 +113,10 @@ def write(journal: str, position: Position) -> None:
     os.replace(new, path)
 
 
-def keep(journal: str, position: Position, grown: Iterable[int]) -> None:
-    """Writes a position, once what counts there of the journals that have grown is durable."""
-    for shard in grown:
-        with open(journal_path(journal, shard), "rb") as opened:
+def keep(journal: str, position: Position, grown: Iterable[str]) -> None:
+    """Writes a position, once what counts there of the files that have grown is durable."""
+    for path in grown:
+        with open(path, "rb") as opened:
             os.fdatasync(opened.fileno())
     write(journal, position)
 
@@ -151,11 +150,14 @@ def begin(journal: str) -> Position:
     """Creates the position before a stream's first message, of journals that no host writes."""
     if os.path.exists(position_path(journal)):
         raise Refusal(f"{position_path(journal)} exists: the partition has begun here")
-    counts, sizes = [0] * MAX_SHARDS, [len(VERSION_LINE)] * MAX_SHARDS
+    counts, sizes = [0] * LOGS, [len(VERSION_LINE)] * NOTES + [0]
     total = hashlib.sha256()
     for shard in shards_of_files(journal).journals:
         counts[shard], sizes[shard], digest = measured(journal_path(journal, shard))
         total.update(f"{shard} {counts[shard]} {digest}\n".encode() if counts[shard] else b"")
+    first, notes = read_notes(journal)
+    counts[NOTES] = first + len(notes)
+    total.update("".join(f"{note}\n" for note in notes).encode())
     found = Position(BEFORE, total.hexdigest()[:DIGITS], NO_BARRIER, tuple(counts), tuple(sizes))
     write(journal, found)
     return found
@@ -186,6 +188,8 @@ def copy(source: str, target: str) -> Position:
     for shard in shards_of_files(source).journals:
         copy_bytes(journal_path(source, shard), journal_path(target, shard), found.sizes[shard])
     check(target, found)
+    first, notes = read_notes(source)
+    write_notes(target, first, notes[: found.counts[NOTES] - first])
     write(target, found)
     return found
 

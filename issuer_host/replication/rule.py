@@ -27,8 +27,7 @@ import enum
 from collections.abc import Iterator
 from typing import NamedTuple, Optional, Protocol
 
-from issuer_host.limits import MAX_SHARDS
-from issuer_host.replication.messages import Barrier, Mark, Message, Record, Records
+from issuer_host.replication.messages import LOGS, Barrier, Mark, Message, Record, Records
 
 # The number of a shard, and a record's place in it.
 Place = tuple[int, int]
@@ -47,7 +46,7 @@ class Count:
 
     __slots__ = ("barrier", "records")
 
-    def __init__(self, barrier: Barrier = NO_BARRIER, records: tuple[int, ...] = (0,) * MAX_SHARDS) -> None:
+    def __init__(self, barrier: Barrier = NO_BARRIER, records: tuple[int, ...] = (0,) * LOGS) -> None:
         self.barrier = barrier
         self.records = list(records)
 
@@ -138,7 +137,10 @@ class Held(NamedTuple):
 class Bridge:
     """A partition's bridge on one machine."""
 
-    __slots__ = ("machine", "count", "journals", "outside", "state", "word", "barrier", "held", "sequence")
+    __slots__ = (
+        *("machine", "count", "journals", "outside", "state", "word", "barrier", "held", "sequence"),
+        "is_releasing",
+    )
 
     def __init__(self, machine: str, count: Count, journals: Journals, outside: Outside) -> None:
         self.machine = machine
@@ -151,6 +153,7 @@ class Bridge:
         self.barrier = NO_BARRIER
         self.held: collections.deque[Held] = collections.deque()
         self.sequence = 0
+        self.is_releasing = False
 
     def connected(self) -> None:
         """The stream can be read and written: all that stands there is read before anything else."""
@@ -272,11 +275,17 @@ class Bridge:
             self.release()
 
     def release(self) -> None:
-        """Sends the answers at the front whose records count."""
-        while self.held:
-            place, answer = self.held[0]
-            if place is not None and not self.count.has(*place):
-                return
-            self.held.popleft()
-            if answer is not None:
-                self.outside.reply(answer)
+        """Sends the answers at the front whose records count. (What is sent may have the host answer more.)"""
+        if self.is_releasing:
+            return
+        self.is_releasing = True
+        try:
+            while self.held and self.may_go(self.held[0].place):
+                answer = self.held.popleft().answer
+                if answer is not None:
+                    self.outside.reply(answer)
+        finally:
+            self.is_releasing = False
+
+    def may_go(self, place: Optional[Place]) -> bool:
+        return place is None or self.count.has(*place)

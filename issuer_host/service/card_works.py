@@ -185,7 +185,7 @@ class CardWorks:
             self.done(running.work.pan)
             return
         running.began = time.monotonic()
-        self.put(running)
+        self.file.when_noted(lambda: self.put(running))
 
     def put(self, running: Running) -> None:
         """Puts a line, unless its host ended meanwhile: then the work begins anew with the next one."""

@@ -1,7 +1,7 @@
 """Starts the program over its journals, or refuses if a start would forget what was decided.
 
-usage: issuer-run [--begin] [--accept-journals] [--program PATH] serve|show|clear|export|standby --config FILE
-                  --journal NAME ..
+usage: issuer-run [--begin] [--accept-journals] [--node] [--program PATH] serve|show|clear|export|standby
+                  --config FILE --journal NAME ..
 
 The words from the command on are the program's own; see issuer(1). Before it hands over to the program it checks:
 
@@ -16,6 +16,7 @@ The words from the command on are the program's own; see issuer(1). Before it ha
 - no journal is empty where another has records
 - each journal is what the seals beside it say (`JOURNAL.seals`), and hasn't grown since its last run ended (`NAME.run`)
 - no bytes come after a journal's last newline that no crash leaves. How many a crash left is told
+- serve and standby don't append to journals that are replicated (`NAME.position`): only a node does, with --node
 
 --accept-journals, once, takes the journals as they are where one of the last three is refused: what they lack is
 forgotten, and seals are made anew.
@@ -43,8 +44,8 @@ from issuer_host.proof import is_proved
 from issuer_host.service.audit import Audit
 from issuer_host.service.faults import lasts, refuse_if_lasting
 from issuer_host.service.folders import folder_of
-from issuer_host.service.history_checks import check_history
-from issuer_host.service.journal_checks import check_journals
+from issuer_host.service.history_checks import APPENDING, check_history
+from issuer_host.service.journal_checks import check_journals, refuse_replicated
 from issuer_host.service.private_files import check_input, check_keys
 from issuer_host.service.refusal import Refusal, tell
 from issuer_host.service.seals import ACCEPTS
@@ -55,6 +56,8 @@ NAME = "issuer-run"
 # An upgrade puts the program and the record of its proof in place one after the other.
 PROOF_LOOKS = 5
 PROOF_SECONDS = 1.0
+# The word of a node's starts.
+NODE = "--node"
 STREAMS = ("standard input", "standard output", "the error output")
 
 
@@ -66,6 +69,8 @@ class Start(NamedTuple):
     accepts: bool
     # Another program than the proved one.
     program: Optional[str]
+    # Whether it is a node's, which alone appends to journals that are replicated.
+    is_node: bool
     words: list[str]
 
 
@@ -73,7 +78,7 @@ def start_of(words: Sequence[str]) -> Start:
     given = set()
     program = None
     words = list(words)
-    while words[:1] in (["--begin"], [ACCEPTS], ["--program"]):
+    while words[:1] in (["--begin"], [ACCEPTS], [NODE], ["--program"]):
         if words[0] == "--program":
             if len(words) < 2:
                 raise Refusal("--program and its value are missing")
@@ -82,7 +87,7 @@ def start_of(words: Sequence[str]) -> Start:
         else:
             given.add(words[0])
             words = words[1:]
-    return Start("--begin" in given, ACCEPTS in given, program, words)
+    return Start("--begin" in given, ACCEPTS in given, program, NODE in given, words)
 
 
 def needed(option: Option, words: Sequence[str]) -> str:
@@ -169,6 +174,8 @@ def hand_over(start: Start) -> int:
     words = owned(start.words)
     shards = shards_of(needed(CONFIG, words))
     check_journals(needed(JOURNAL, words), shards, start.begins, start.accepts)
+    if words[0] in APPENDING and not start.is_node:
+        refuse_replicated(needed(JOURNAL, words))
     lines = COMMANDS[words[0]].lines
     if lines and lines.may_be_piped:
         check_input(needed(lines.option, words))

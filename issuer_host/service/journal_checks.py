@@ -2,7 +2,15 @@
 import os
 from collections.abc import Sequence
 
-from issuer_host.journals import VERSION_LINE, Shards, journal_path, journals_of, old_journal_path, shards_of_files
+from issuer_host.journals import (
+    POSITION,
+    VERSION_LINE,
+    Shards,
+    journal_path,
+    journals_of,
+    old_journal_path,
+    shards_of_files,
+)
 from issuer_host.service.faults import refuse_if_lasting
 from issuer_host.service.private_files import check_private
 from issuer_host.service.refusal import Refusal
@@ -42,6 +50,15 @@ def check_empty(name: str, shards: int) -> None:
                 f"{journal_path(name, shard)} is empty, and others have records: what it recorded would be decided"
                 f" again. Restore it from a copy. If it is right as it is, add {ACCEPTS}, once"
             )
+
+
+def refuse_replicated(name: str) -> None:
+    """Refuses journals that a node writes by the order of a stream: a record beside it counts nowhere."""
+    if os.path.exists(name + POSITION):
+        raise Refusal(
+            f"the journals {name} are replicated, as {name}{POSITION} says: deploy/node alone runs a host over them,"
+            " and takes orders at its sockets"
+        )
 
 
 def bytes_of(path: str) -> int:

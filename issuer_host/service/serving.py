@@ -1,7 +1,7 @@
 """A partition's host with all that is put to it: requests, accounts' declines and orders. It knows no broker."""
 import time
 from collections.abc import Callable, Sequence
-from typing import NamedTuple
+from typing import NamedTuple, Optional
 
 from issuer_host.request_lines import DECIDE
 from issuer_host.service.audit import Audit
@@ -68,6 +68,7 @@ class Serving:
         orders: str,
         outside: Outside,
         name: str = NAME,
+        file: Optional[WorkFile] = None,
     ) -> None:
         self.loop = loop
         self.figures = figures
@@ -84,7 +85,7 @@ class Serving:
             outside.give_up,
         )
         self.hosting = Hosting(loop, command, journal, figures, calls, name)
-        self.works = CardWorks(loop, self.hosting, WorkFile(journal), self.work_answered, self.release)
+        self.works = CardWorks(loop, self.hosting, file or WorkFile(journal), self.work_answered, self.release)
         self.orders = OrderSocket(loop, orders, self.has_host, self.order)
         # Whether requests come here: without them a host ends when it is idle.
         self.is_served = False

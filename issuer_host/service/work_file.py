@@ -11,6 +11,7 @@ import errno
 import hashlib
 import json
 import os
+from collections.abc import Callable
 from typing import Any, NamedTuple, Optional
 
 from issuer_host.request_lines import SET_STATUS
@@ -141,6 +142,10 @@ class WorkFile:
             self.append(said)
         except OSError as fault:
             tell("bridge", f"{self.path} can't be written: {fault.strerror}; the journals say what it would")
+
+    def when_noted(self, action: Callable[[], object]) -> None:
+        """Does something once what was noted is known wherever it may be needed: here it is."""
+        action()
 
     def append(self, said: list[dict[str, Any]]) -> None:
         """Appends lines whole, behind those that couldn't be appended before."""

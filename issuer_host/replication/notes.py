@@ -1,0 +1,185 @@
+"""The notes of work on cards: what of orders and accounts' declines was begun, and what became of it.
+
+They are the records of one more shard: each is a line of `JOURNAL.work`, and counts as records do. So whichever machine
+goes on knows what was begun before a line was put, and settles it. The file may begin with a line that says the place
+of its first note: what nobody asks for any more is left out when the file is long.
+"""
+import collections
+import contextlib
+import json
+import os
+from collections.abc import Callable
+from typing import Any
+
+from issuer_host.replication.messages import NOTES, Record
+from issuer_host.service.journal_checks import sync_folder
+from issuer_host.service.folders import folder_of
+from issuer_host.service.refusal import Refusal
+from issuer_host.service.work_file import ENDING, KNOWN, MOST_LINES, Begun, WorkFile
+from issuer_host.service.whole_writes import write_whole
+
+FIRST = "first"
+
+
+def notes_path(journal: str) -> str:
+    return journal + ENDING
+
+
+def read_notes(journal: str) -> "tuple[int, list[str]]":
+    """Returns the place of a file's first note, and its notes. A torn last line is none."""
+    try:
+        with open(notes_path(journal), encoding="ascii") as text:
+            *lines, _ = text.read().split("\n")
+    except FileNotFoundError:
+        return 0, []
+    with contextlib.suppress(ValueError, IndexError, KeyError, TypeError):
+        return int(json.loads(lines[0])[FIRST]), lines[1:]
+    return 0, lines
+
+
+def write_notes(journal: str, first: int, lines: "list[str]") -> int:
+    """Puts notes in place of those that a file has, durably. Returns the bytes."""
+    path = notes_path(journal)
+    new = path + ".new"
+    text = "".join(f"{line}\n" for line in (json.dumps({FIRST: first}), *lines)).encode("ascii")
+    file = os.open(new, os.O_WRONLY | os.O_CREAT | os.O_TRUNC | os.O_NOFOLLOW | os.O_CLOEXEC, 0o600)
+    try:
+        write_whole(file, text, 0)
+        os.fsync(file)
+    finally:
+        os.close(file)
+    os.replace(new, path)
+    sync_folder(folder_of(path))
+    return len(text)
+
+
+class Notes:
+    """The notes of a machine: how many count, and those beyond them."""
+
+    number = NOTES
+    # (a position has no bytes of them)
+    size = 0
+
+    def __init__(self, journal: str, count: int) -> None:
+        self.journal = journal
+        self.path = notes_path(journal)
+        self.count = count
+        self.beyond: collections.deque[str] = collections.deque()
+        self.lines = 0
+        # The bytes of the file.
+        self.bytes = 0
+
+    def open(self) -> None:
+        first, lines = read_notes(self.journal)
+        if first + len(lines) < self.count or first > self.count:
+            raise Refusal(f"{self.path} hasn't the {self.count} notes that count: copy another machine's journals")
+        self.beyond = collections.deque(lines[self.count - first :])
+        self.lines = len(lines)
+        self.bytes = write_notes(self.journal, first, lines)
+
+    def length(self) -> int:
+        return self.count + len(self.beyond)
+
+    def text(self, place: int) -> str:
+        return self.beyond[place - self.count]
+
+    def all(self) -> "list[str]":
+        return read_notes(self.journal)[1]
+
+    def append(self, text: str) -> None:
+        """Appends a note whole, or leaves what is there."""
+        if self.lines > MOST_LINES and not self.beyond:
+            self.leave_out()
+        data = text.encode("ascii") + b"\n"
+        file = os.open(self.path, os.O_WRONLY | os.O_NOFOLLOW | os.O_CLOEXEC)
+        try:
+            write_whole(file, data, self.bytes)
+        except OSError:
+            os.ftruncate(file, self.bytes)
+            raise
+        finally:
+            os.close(file)
+        self.beyond.append(text)
+        self.bytes += len(data)
+        self.lines += 1
+
+    def sync(self) -> None:
+        with open(self.path, "rb") as opened:
+            os.fdatasync(opened.fileno())
+
+    def counted(self, _: Record) -> None:
+        self.beyond.popleft()
+        self.count += 1
+
+    def truncate(self, length: int) -> None:
+        while self.length() > length:
+            self.bytes -= len(self.beyond.pop()) + 1
+            self.lines -= 1
+        with open(self.path, "rb+") as opened:
+            opened.truncate(self.bytes)
+            os.fsync(opened.fileno())
+
+    def leave_out(self) -> None:
+        """Writes the file anew without what nobody asks for any more. All notes count."""
+        known = WorkFile(self.journal)
+        for line in self.all():
+            take(known, line)
+        lines = [as_note(begun._asdict()) for begun in known.open.values()]
+        for number, (value, answer) in list(known.ended.items())[-KNOWN:]:
+            lines.append(as_note(Begun(number, "", "", "", 0, value)._asdict()))
+            lines.append(as_note({"number": number, "answer": answer}))
+        self.bytes = write_notes(self.journal, self.count - len(lines), lines)
+        self.lines = len(lines)
+
+
+def as_note(said: "dict[str, Any]") -> str:
+    return json.dumps(said, separators=(",", ":"))
+
+
+def take(file: WorkFile, line: str) -> None:
+    with contextlib.suppress(ValueError, TypeError, KeyError):
+        # (a line that couldn't be written whole is none)
+        file.take(json.loads(line))
+
+
+class NotedWork(WorkFile):
+    """`WorkFile` over notes. `write` gets each one that was appended, and `wait` what is done once all count."""
+
+    def __init__(
+        self,
+        journal: str,
+        notes: Callable[[], Notes],
+        write: Callable[[Record], object],
+        wait: Callable[[Callable[[], object]], object],
+    ) -> None:
+        super().__init__(journal)
+        self.notes = notes
+        self.write = write
+        self.wait = wait
+
+    def load(self) -> None:
+        """Takes what the notes say: another machine may have written them."""
+        self.open.clear()
+        self.ended.clear()
+        for line in self.notes().all():
+            take(self, line)
+
+    def begin(self, begun: Begun) -> None:
+        """Notes that work begins. An OSError says that it may not."""
+        self.append([begun._asdict()])
+        self.open[begun.number] = begun
+        self.notes().sync()
+
+    def append(self, said: "list[dict[str, Any]]") -> None:
+        notes = self.notes()
+        for one in said:
+            text = as_note(one)
+            notes.append(text)
+            self.write(Record(NOTES, notes.length() - 1, text))
+
+    def when_noted(self, action: Callable[[], object]) -> None:
+        """Does something once what was noted counts: no line is put before."""
+        self.wait(action)
+
+    def close(self) -> None:
+        pass
