@@ -3,28 +3,38 @@ import contextlib
 import json
 import os
 import re
+import shutil
 import signal
+import socket
 import subprocess
 import time
-from collections.abc import Callable, Sequence
-from typing import Any, Optional
+from collections.abc import Callable, Iterator, Sequence
+from typing import Any, NamedTuple, Optional
 
-from runs import HOME
-from issuer_host.journals import journal_path
+import pika
+
+from issuer_host.answers import RECORDED
+from issuer_host.journals import StatusSet, journal_path, record_of, records_of
 from issuer_host.partitions import partition_configuration, partition_journal
+from issuer_host.paths import HOME
+from issuer_host.replication.messages import LOGS, Message, Record, parse
+from issuer_host.replication.notes import read_notes
+from issuer_host.replication.rule import Count
 from issuer_host.service import broker
 from issuer_host.service.asking import Asker, Unanswered
 from issuer_host.service.trials.cards import distinct_lines, whole_configuration, with_account_row
 from issuer_host.service.trials.private_broker import PrivateBroker
+from issuer_host.service.work_file import Begun, WorkFile
 
 NODE = os.path.join(HOME, "deploy/node")
 QUEUES = os.path.join(HOME, "deploy/queues")
+# A node with another body of the rule.
+WRONG = os.path.join(HOME, "tests/stand_ins/wrong_node")
 STATE = re.compile(r"^node: partition (\d+): (away|reading|waiting|beginning|serving|stopped)", re.MULTILINE)
 CARDS, SHARDS = 8, 2
 SECONDS = 60.0
 LOOK_SECONDS = 0.05
-# Where the loop runs with the modules of the tree, and another body of a class in their place.
-WRONG = os.path.join(HOME, "tests/stand_ins/wrong_node")
+TRIES = 5
 
 
 class Machine:
@@ -35,29 +45,33 @@ class Machine:
         self.name = name
         self.partitions = partitions
         self.process: "Optional[subprocess.Popen[bytes]]" = None
+        # Where the log of the node begins that runs.
+        self.begun = 0
         os.makedirs(self.room)
         self.log = os.path.join(self.room, "log")
         self.file = os.path.join(self.room, "node.json")
-        told: dict[str, Any] = {"machine": name, "broker_file": url_file, "program": program, "figures": 0}
-        told["partitions"] = [self.partition(number) for number in partitions]
+        told = {"machine": name, "broker_file": url_file, "program": program, "figures": 0}
+        self.write({**told, "partitions": [self.partition(number) for number in partitions]})
+
+    def write(self, told: dict[str, Any]) -> None:
         with open(self.file, "w", encoding="utf-8") as text:
             json.dump(told, text)
 
+    def told(self) -> dict[str, Any]:
+        """Returns what NODE.json says."""
+        with open(self.file, encoding="utf-8") as text:
+            found: dict[str, Any] = json.load(text)
+            return found
+
     def partition(self, number: int) -> dict[str, Any]:
         """Returns what NODE.json says of a partition, and writes its configuration."""
-        config = partition_configuration(self.room, number)
-        journal = self.journal(number)
+        config, journal = partition_configuration(self.room, number), self.journal(number)
         os.makedirs(os.path.dirname(journal), exist_ok=True)
+        found = whole_configuration(CARDS, SHARDS)
         with open(os.open(config, os.O_CREAT | os.O_WRONLY, 0o600), "w", encoding="utf-8") as text:
-            found = whole_configuration(CARDS, SHARDS)
             json.dump({**found, "table": with_account_row(found["table"])}, text)
-        return {
-            "number": number,
-            "configuration": config,
-            "journal": journal,
-            "callers": 1,
-            "orders": self.socket(number),
-        }
+        files = {"configuration": config, "journal": journal, "orders": self.socket(number)}
+        return {"number": number, "callers": 1, **files}
 
     def journal(self, number: int) -> str:
         return partition_journal(self.room, number)
@@ -65,39 +79,34 @@ class Machine:
     def socket(self, number: int) -> str:
         return os.path.join(self.room, f"orders-{number}")
 
-    def begin(self) -> None:
-        self.run("--begin", self.file)
-
     def run(self, *words: str) -> None:
+        """Runs the node's command for something else than its partitions."""
         done = subprocess.run([NODE, *words], capture_output=True, text=True, check=False)
         if done.returncode:
             raise RuntimeError(done.stderr)
 
     def start(self, wrong: str = "") -> None:
-        """Starts the node; with another body of a class, if one is named."""
+        """Starts the node; with another body of the rule, if one is named."""
         command = [WRONG, wrong, self.file] if wrong else [NODE, self.file]
         with open(self.log, "ab") as log:
+            self.begun = log.tell()
             self.process = subprocess.Popen(command, stdin=subprocess.DEVNULL, stderr=log, start_new_session=True)
-
-    def said(self) -> str:
-        with open(self.log, encoding="utf-8", errors="replace") as text:
-            return text.read()
-
-    def state(self, number: int) -> str:
-        """Returns the state that a partition told last."""
-        found = [state for partition, state in STATE.findall(self.said()) if int(partition) == number]
-        return str(found[-1]) if found else ""
 
     def signal(self, number: int) -> None:
         assert self.process is not None
         with contextlib.suppress(ProcessLookupError):
             os.kill(self.process.pid, number)
 
+    def signal_all(self, number: int) -> None:
+        """Sends a signal to the node and its hosts."""
+        assert self.process is not None
+        with contextlib.suppress(ProcessLookupError):
+            os.killpg(self.process.pid, number)
+
     def kill(self) -> None:
         """Kills the node with its hosts, as a machine that is switched off."""
         if self.process is not None:
-            with contextlib.suppress(ProcessLookupError):
-                os.killpg(self.process.pid, signal.SIGKILL)
+            self.signal_all(signal.SIGKILL)
             self.process.wait()
 
     def ends(self, seconds: float = SECONDS) -> Optional[int]:
@@ -107,18 +116,243 @@ class Machine:
             return self.process.wait(seconds)
         return None
 
-    def text(self, number: int) -> list[str]:
-        """Returns the texts of a partition's journals."""
+    def hosts(self) -> list[int]:
+        """Returns the process ids of what the node runs over journals."""
+        assert self.process is not None
+        try:
+            with open(f"/proc/{self.process.pid}/task/{self.process.pid}/children", encoding="ascii") as text:
+                return [int(word) for word in text.read().split()]
+        except FileNotFoundError:
+            return []
+
+    # What it says, and what it has
+
+    def said(self) -> str:
+        with open(self.log, encoding="utf-8", errors="replace") as text:
+            return text.read()
+
+    def state(self, number: int) -> str:
+        """Returns the state that a partition told last; nothing if the node doesn't run."""
+        if self.process is None or self.process.poll() is not None:
+            return ""
+        found = [state for partition, state in STATE.findall(self.said()[self.begun :]) if int(partition) == number]
+        return str(found[-1]) if found else ""
+
+    def records(self, number: int) -> list[list[str]]:
+        """Returns the records of a partition's journals, and the notes."""
         found = []
         for shard in range(SHARDS):
-            with open(journal_path(self.journal(number), shard), encoding="ascii") as journal:
-                found.append(journal.read())
+            path = journal_path(self.journal(number), shard)
+            found.append(list(records_of(path)) if os.path.getsize(path) else [])
         return found
+
+    def begun_works(self, number: int) -> list[Begun]:
+        """Returns the declines that were begun, by the notes of this machine, and that aren't ended."""
+        known = WorkFile(self.journal(number))
+        for note in read_notes(self.journal(number))[1]:
+            known.take(json.loads(note))
+        return known.declines()
 
     def position(self, number: int) -> dict[str, Any]:
         with open(f"{self.journal(number)}.position", encoding="utf-8") as text:
             found: dict[str, Any] = json.load(text)
             return found
+
+    def barrier(self, number: int) -> int:
+        """Returns the number of the last barrier that counts, once the position has it."""
+        wait_until(lambda: self.position(number)["barrier"][0] > 0, 20)
+        return int(self.position(number)["barrier"][0])
+
+
+class History(NamedTuple):
+    """What counts in a stream."""
+
+    records: list[list[str]]
+
+    def has(self, answer: str) -> bool:
+        """Whether the record that an answer names counts."""
+        words = answer.split(" ")
+        return words[0] not in RECORDED or int(words[2]) < len(self.records[int(words[1])])
+
+
+class Room:
+    """A folder with machines, and partitions of their own at the broker."""
+
+    def __init__(self, folder: str, private: PrivateBroker, program: str, partitions: Sequence[int]) -> None:
+        self.folder = folder
+        self.private = private
+        self.program = program
+        self.partitions = partitions
+        self.machines: list[Machine] = []
+        # By partition all answers, and by request and partition what all its answers said.
+        self.answers: dict[int, list[str]] = {}
+        self.replies: dict[tuple[int, str], set[str]] = {}
+        os.makedirs(folder)
+
+    def begin(self, machines: int, wrong: str = "") -> None:
+        self.declare()
+        for number in range(machines):
+            machine = self.machine(f"m{number + 1}")
+            machine.run("--begin", machine.file)
+            machine.start(wrong)
+        is_served = wait_until(lambda: all(self.is_served(number) for number in self.partitions), 2 * SECONDS)
+        if not is_served:
+            raise RuntimeError("".join(machine.said() for machine in self.machines))
+
+    def machine(self, name: str) -> Machine:
+        found = Machine(self.folder, name, self.private.url_file, self.program, self.partitions)
+        self.machines.append(found)
+        return found
+
+    def end(self) -> None:
+        for machine in self.machines:
+            machine.kill()
+
+    def is_served(self, number: int) -> bool:
+        return any(machine.state(number) == "serving" for machine in self.machines)
+
+    def serving(self, number: Optional[int] = None) -> Machine:
+        """Returns the machine that serves a partition, the first one if none is named."""
+        wanted = self.partitions[0] if number is None else number
+        wait_until(lambda: self.is_served(wanted), SECONDS)
+        return next(machine for machine in self.machines if machine.state(wanted) == "serving")
+
+    def add(self, name: str, copies: Optional[Machine] = None, with_records_of: Optional[Machine] = None) -> Machine:
+        """Adds a machine, with copies of another's journals, or with its records as journals of before."""
+        found = self.machine(name)
+        for number in self.partitions:
+            if copies is not None:
+                found.run("--copy", copies.journal(number), found.journal(number))
+            elif with_records_of is not None:
+                for shard in range(SHARDS):
+                    paths = (journal_path(machine.journal(number), shard) for machine in (with_records_of, found))
+                    shutil.copyfile(*paths)
+        if copies is None:
+            found.run("--begin", found.file)
+        found.start()
+        return found
+
+    def twin(self, machine: Machine) -> Machine:
+        """Starts a second node over a machine's journals."""
+        found = self.machine("twin")
+        partitions = [{**one, "orders": ""} for one in machine.told()["partitions"]]
+        found.write({**machine.told(), "machine": "twin", "partitions": partitions})
+        found.start()
+        return found
+
+    def start_alone(self, machine: Machine, number: int) -> Optional[int]:
+        """Starts a machine's node with one partition. Returns the status with which it ends."""
+        told = machine.told()
+        machine.write({**told, "partitions": [one for one in told["partitions"] if one["number"] == number]})
+        machine.start()
+        return machine.ends(30)
+
+    # The broker
+
+    @contextlib.contextmanager
+    def channel(self) -> Iterator[Any]:
+        connection = pika.BlockingConnection(broker.parameters_of(self.private.url_file))
+        try:
+            yield connection.channel()
+        finally:
+            # (pika rejects what is on its way, which streams don't bear)
+            with contextlib.suppress(pika.exceptions.AMQPError):
+                connection.close()
+
+    def declare(self) -> None:
+        words = ["--partitions", str(max(self.partitions) + 1), "--streams", "--broker-file", self.private.url_file]
+        for _ in range(TRIES):
+            # (a broker on a busy machine may not answer in time)
+            if subprocess.run([QUEUES, *words], stdout=subprocess.DEVNULL, check=False).returncode == 0:
+                return
+        raise RuntimeError("the queues can't be declared")
+
+    def bind(self, number: int, is_bound: bool) -> None:
+        """Lets what is written arrive at a partition's stream, or keeps it from it."""
+        stream = broker.stream_of(number)
+        with self.channel() as channel:
+            (channel.queue_bind if is_bound else channel.queue_unbind)(stream, broker.RECORDS, stream)
+
+    def write(self, number: int, text: str) -> None:
+        """Writes a message to a partition's stream."""
+        with self.channel() as channel:
+            channel.basic_publish(broker.RECORDS, broker.stream_of(number), text.encode())
+
+    def publish(self, number: int, lines: Sequence[str]) -> None:
+        """Puts requests into a partition's queue whose answers nobody reads."""
+        with self.channel() as channel:
+            for place, line in enumerate(lines):
+                properties = pika.BasicProperties(reply_to="issuer.reply.nobody", correlation_id=f"nobody{place}")
+                channel.basic_publish(broker.REQUESTS, str(number), line.encode(), properties)
+
+    def purge(self, number: int) -> None:
+        """Takes what waits in a partition's queue out of it."""
+        with self.channel() as channel:
+            wait_until(lambda: channel.queue_purge(broker.queue_of(number)).method.message_count, 10)
+
+    def make_anew(self, number: int) -> None:
+        with self.channel() as channel:
+            channel.queue_delete(broker.stream_of(number))
+        self.declare()
+
+    def messages(self, number: int) -> list[Message]:
+        """Returns all messages of a partition's stream, up to one that this writes."""
+        end = f"mark end.{time.monotonic_ns()}\n"
+        self.write(number, end)
+        found = []
+        with self.channel() as channel:
+            channel.basic_qos(prefetch_count=100)
+            words = {"arguments": {"x-stream-offset": "first"}, "inactivity_timeout": SECONDS}
+            for method, _, body in channel.consume(broker.stream_of(number), **words):
+                assert method is not None, "the stream's end doesn't come"
+                found.append(parse(body.decode()))
+                channel.basic_ack(method.delivery_tag)
+                if body.decode() == end:
+                    break
+        return found
+
+    def history(self, number: int) -> History:
+        """Returns what counts in a partition's stream."""
+        count = Count()
+        records: list[Record] = [record for message in self.messages(number) for record in count.take(message)]
+        logs: list[list[str]] = [[] for _ in range(LOGS)]
+        for record in records:
+            logs[record.shard].append(record.text)
+        return History(logs[:SHARDS])
+
+    def is_read(self, machine: Machine, number: int) -> bool:
+        """Whether a machine's position counts all records of the stream."""
+        counts: list[int] = machine.position(number)["counts"]
+        return counts[:SHARDS] == [len(log) for log in self.history(number).records]
+
+    # Requests
+
+    def ask(self, lines: Sequence[str], seconds: float = SECONDS, number: Optional[int] = None) -> list[str]:
+        """Asks lines at a partition, and returns the answers in their order; an empty one if there is none."""
+        wanted = self.partitions[0] if number is None else number
+        found: dict[int, str] = {}
+        asker = OnePartition(wanted, self.private.url_file, seconds)
+        asker.on_answer = lambda question, text: found.update({question.number: text})
+        with asker, contextlib.suppress(Unanswered):
+            for _ in asker.ask_all(lines):
+                pass
+        for place, answer in found.items():
+            self.answers.setdefault(wanted, []).append(answer)
+            self.replies.setdefault((wanted, lines[place]), set()).add(answer.partition(" ")[2])
+        return [found.get(place, "") for place in range(len(lines))]
+
+    def kinds(self, lines: Sequence[str], number: Optional[int] = None) -> set[str]:
+        """Asks lines, and returns the first words of the answers."""
+        return {answer.split(" ")[0] for answer in self.ask(lines, SECONDS, number)}
+
+    def repeats(self) -> list[str]:
+        """Returns the requests that got two answers of another content."""
+        return [line[:40] for (_, line), said in self.replies.items() if len(said) > 1]
+
+    def statuses(self, number: int) -> dict[str, str]:
+        """Returns the status that each card was given last, by the journals of the first machine."""
+        records = (record_of(line) for log in self.machines[0].records(number) for line in log)
+        return {record.pan: str(record.status) for record in records if isinstance(record, StatusSet)}
 
 
 class OnePartition(Asker):
@@ -132,25 +366,19 @@ class OnePartition(Asker):
         return self.number
 
 
-def ask(private: PrivateBroker, number: int, lines: Sequence[str], seconds: float = SECONDS) -> list[str]:
-    """Asks lines at a partition, and returns the answers in their order; an empty one if there is none."""
-    found: dict[int, str] = {}
-    asker = OnePartition(number, private.url_file, seconds)
-    asker.on_answer = lambda question, text: found.update({question.number: text})
-    with asker, contextlib.suppress(Unanswered):
-        for _ in asker.ask_all(lines):
-            pass
-    return [found.get(place, "") for place in range(len(lines))]
-
-
-def declare(private: PrivateBroker, partitions: int) -> None:
-    """Declares the queues and streams of partitions up to a number."""
-    words = ["--partitions", str(partitions), "--streams", "--broker-file", private.url_file]
-    for _ in range(5):
-        # (a broker on a busy machine may not answer in time)
-        if subprocess.run([QUEUES, *words], stdout=subprocess.DEVNULL, check=False).returncode == 0:
-            return
-    raise RuntimeError("the queues can't be declared")
+def order(machine: Machine, number: int, name: str, line: str) -> str:
+    """Orders a line at a machine's node, again while nobody knows what became of it. Returns the reply."""
+    wait_until(lambda: os.path.exists(machine.socket(number)))
+    end = time.monotonic() + SECONDS
+    while True:
+        with socket.socket(socket.AF_UNIX) as peer:
+            peer.settimeout(SECONDS)
+            peer.connect(machine.socket(number))
+            peer.sendall(f"order {name} {line}\n".encode())
+            reply = peer.recv(4096).decode()
+        if not reply.startswith("not known") or time.monotonic() > end:
+            return reply
+        time.sleep(LOOK_SECONDS)
 
 
 def lines_of(count: int) -> list[str]:
@@ -165,7 +393,3 @@ def wait_until(holds: Callable[[], object], seconds: float = SECONDS) -> bool:
             return True
         time.sleep(LOOK_SECONDS)
     return False
-
-
-def stream_name(number: int) -> str:
-    return broker.stream_of(number)

@@ -4,7 +4,6 @@ A record that counts and isn't there is put by a run of `issuer standby`, which 
 stays until a host has to begin or a journal is truncated. A truncated journal's seals are truncated with it.
 """
 import collections
-import contextlib
 import os
 from collections.abc import Callable, Sequence
 from typing import Optional, Union
@@ -18,6 +17,7 @@ from issuer_host.service.history_checks import is_locked
 from issuer_host.service.host import Host
 from issuer_host.service.loops import Loop
 from issuer_host.service.refusal import Refusal
+from issuer_host.service.sealing import Sealing
 from issuer_host.service.seals import Seals
 from issuer_host.statuses import NOT_AGAIN, Status, meaning_of
 
@@ -96,16 +96,20 @@ class JournalFiles:
         shards: int,
         position: Position,
         standby: Sequence[str],
+        name: str,
         on_fault: Callable[[Exception], object],
     ) -> None:
         self.loop = loop
         self.journal = journal
         self.command = standby
+        # Who tells of it.
+        self.name = name
         self.on_fault = on_fault
         counted = zip(range(shards), position.counts, position.sizes)
         self.shards = [Shard(journal, number, count, size) for number, count, size in counted]
         self.notes = Notes(journal, position.counts[NOTES])
         self.standby: Optional[Host] = None
+        self.sealing = Sealing(journal, name)
         # What is called when the run of standby has ended that is to end; None if it isn't to end.
         self.on_ended: Optional[Callable[[], object]] = None
 
@@ -157,6 +161,7 @@ class JournalFiles:
         if self.standby is None or not self.standby.is_open or self.standby.is_full():
             self.end_standby_now()
             self.standby = Host(self.loop, self.command, lambda _: None, self.standby_ended)
+            self.sealing = Sealing(self.journal, self.name)
         self.standby.put(f"{record.shard} {record.place} {record.text}".encode("latin-1"))
 
     def truncate(self, shard: int, length: int) -> None:
@@ -226,11 +231,7 @@ class JournalFiles:
 
     def mark_end(self) -> None:
         """No run appends any more."""
-        with contextlib.suppress(OSError):
-            mark = lock_mark(self.journal, creates=False)
-            if mark is not None:
-                mark.has_ended()
-                mark.close()
+        self.sealing.end()
 
     def fault_of(self, status: int, said: str) -> Exception:
         if status in NEED_A_PERSON:
@@ -244,6 +245,19 @@ class JournalFiles:
 
     def sizes(self) -> tuple[int, ...]:
         return (*filled([shard.size for shard in self.shards], len(VERSION_LINE)), 0)
+
+    def uncounted(self) -> int:
+        """Returns how many records that are known here don't count yet."""
+        return sum(len(shard.beyond) for shard in self.shards) + len(self.notes.beyond)
+
+    def seal(self) -> None:
+        """Seals what a run of standby has appended: what is followed by another record is durable."""
+        if self.standby is None:
+            return
+        for shard in self.shards:
+            has_all = shard.bytes_in_file() >= shard.size
+            self.sealing.are_durable(shard.number, max(shard.count - 1, 0) if has_all else 0)
+        self.sealing.look()
 
     def grown(self, before: Position, position: Position) -> "list[str]":
         """Returns the files of which more counts at a position than at the one before."""

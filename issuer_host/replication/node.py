@@ -35,7 +35,7 @@ from issuer_host.replication.partition_node import STOPPED, PartitionNode
 from issuer_host.replication.rule import State
 from issuer_host.journals import shards_of_files
 from issuer_host.service.careful_start import shards_of
-from issuer_host.service.figures import Figures
+from issuer_host.service.figures import KINDS_OF_NODE, Figures, kinds_at
 from issuer_host.service.journal_checks import create_journals
 from issuer_host.service.loops import new_loop
 from issuer_host.service.notices import notify
@@ -57,8 +57,9 @@ class Node:
         self.status: int = Status.OK
         self.loop = new_loop()
         self.keeper = positions.Keeper(self.loop)
+        kinds = kinds_at(settings.figures, KINDS_OF_NODE)
         self.partitions = [
-            PartitionNode(self.loop, settings, one, Figures(one.number, 0, one.journal), self.keeper)
+            PartitionNode(self.loop, settings, one, Figures(one.number, one.journal, kinds), self.keeper)
             for one in settings.partitions
         ]
         self.readiness = Readiness(NAME)

@@ -4,6 +4,7 @@ It follows the partition's stream until the queue delivers here and its own barr
 the careful start, and what the host answers is known to nobody before its records count: no reply is sent, and no next
 line of an order or of an account's decline is put. When another's barrier counts it kills the host, and follows again.
 """
+import fcntl
 import os
 import sys
 import time
@@ -54,6 +55,9 @@ FIRST_DELAY, LAST_DELAY, STEADY_SECONDS = 0.5, 16.0, 60.0
 # Bytes of a reason that the broker is told.
 REASON = 200
 STOPPED = "stopped"
+# A disk that takes no record for so long lets another machine serve.
+FULL_SECONDS = 3.0
+LOCK = ".node"
 
 
 class PartitionNode:
@@ -89,6 +93,7 @@ class PartitionNode:
         self.serving = Serving(loop, command, settings.journal, figures, settings.orders, outside, self.name, file)
         # They are there once the position was read.
         self.journals: Optional[JournalFiles] = None
+        self.lock: Optional[int] = None
         self.stream: Optional[Stream] = None
         self.bridge: Optional[Bridge] = None
         self.is_stopped = False
@@ -169,18 +174,19 @@ class PartitionNode:
         self.tell_state()
 
     def load(self) -> None:
-        """Begins at the position beside the journals."""
+        """Begins at the position beside the journals, which no other node may have."""
         journal = self.settings.journal
+        self.lock = self.lock or locked(journal)
         position = positions.read(journal)
         shards = shards_of(self.settings.configuration)
-        self.journals = JournalFiles(
-            self.loop, journal, shards, position, self.command("standby", "--feed"), self.failed
-        )
+        standby = self.command("standby", "--feed")
+        self.journals = JournalFiles(self.loop, journal, shards, position, standby, self.name, self.failed)
         self.journals.open()
         place = StreamPlace(position.offset, position.digest)
         self.stream = Stream(self.loop, broker.stream_of(self.settings.number), place, self.call, self.complain)
         self.bridge = Bridge(self.node.machine, Count(position.barrier, position.counts), self.journals, self)
         self.kept = position
+        self.rewritten = 0
 
     def lost(self, reason: Exception) -> None:
         self.guarded(lambda: self.disconnected(str(reason)))
@@ -381,7 +387,7 @@ class PartitionNode:
 
     def look(self, now: float) -> None:
         """A look every half second."""
-        if self.bridge is None or self.stream is None:
+        if self.bridge is None or self.stream is None or self.journals is None:
             return
         self.keep_position()
         if self.link.channel is not None and now - self.heard > QUIET_SECONDS:
@@ -392,10 +398,28 @@ class PartitionNode:
         self.looks += 1
         if self.looks % 2 == 0:
             self.serving.look()
-        self.figures.in_flight.set(len(self.replying.flight))
-        self.figures.oldest.set(self.replying.flight.age(now))
+            self.journals.seal()
+        self.look_at_disk(now)
+        self.tell_figures(now)
         if self.bridge.state in (State.WAITING, State.SERVING) and now - self.not_before > STEADY_SECONDS:
             self.delay = 0.0
+
+    def look_at_disk(self, now: float) -> None:
+        """Lets another machine serve if this one's disk takes no record for long."""
+        since = self.serving.holding.full_since
+        if since is not None and now - since > FULL_SECONDS and self.serving.is_served:
+            self.serving.holding.full_since = None
+            self.link.begin_anew("the disk takes no record")
+            self.complain("the disk takes no record: another machine may serve the partition")
+
+    def tell_figures(self, now: float) -> None:
+        assert self.bridge is not None and self.stream is not None and self.journals is not None
+        self.figures.in_flight.set(len(self.replying.flight))
+        self.figures.oldest.set(self.replying.flight.age(now))
+        self.figures.read.set(self.stream.place.offset)
+        self.figures.needed.set(self.kept.offset if self.kept is not None else positions.BEFORE)
+        self.figures.uncounted.set(self.journals.uncounted())
+        self.figures.serving.set(self.bridge.state is State.SERVING)
 
     def is_owed(self) -> bool:
         """Whether something was written that didn't come back."""
@@ -466,6 +490,8 @@ class PartitionNode:
         self.end_all()
         self.serving.stop()
         self.link.close(lambda: None)
+        self.figures.serving.set(0)
+        self.figures.stopped.set(1)
         self.tell_state(why)
 
     # What is told
@@ -486,6 +512,17 @@ class PartitionNode:
     def complain(self, why: str) -> None:
         """Tells what goes wrong in a state, once."""
         self.tell_state(why)
+
+
+def locked(journal: str) -> int:
+    """Locks the journals for this node for as long as it lives."""
+    file = os.open(journal + LOCK, os.O_RDWR | os.O_CREAT | os.O_NOFOLLOW | os.O_CLOEXEC, 0o600)
+    try:
+        fcntl.flock(file, fcntl.LOCK_EX | fcntl.LOCK_NB)
+    except BlockingIOError as fault:
+        os.close(file)
+        raise Passing(f"another node has the journals {journal}") from fault
+    return file
 
 
 def place_of(answer: str) -> Optional[Place]:

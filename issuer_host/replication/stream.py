@@ -22,7 +22,7 @@ from issuer_host.service.loops import Channel, Delivery, Loop, Properties
 from issuer_host.service.refusal import Refusal
 
 # Messages that the broker sends before the first one of them is acknowledged.
-PREFETCH = 200
+PREFETCH = 50
 # A channel that the broker closed is opened again after so long: a node that just started lacks its copy for a while.
 AGAIN_SECONDS = 0.5
 FIRST, LAST = "first", "last"

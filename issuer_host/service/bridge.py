@@ -34,7 +34,7 @@ from typing import Any, NamedTuple, NoReturn, Optional
 
 from issuer_host.paths import HOME
 from issuer_host.service import broker
-from issuer_host.service.figures import Figures
+from issuer_host.service.figures import Figures, kinds_at
 from issuer_host.service.flight import Entry
 from issuer_host.service.link import Link
 from issuer_host.service.loops import Callback, Channel, Delivery, Properties, Step, new_loop
@@ -104,7 +104,7 @@ class Bridge:
         self.status: int = Status.OK
         self.loop = new_loop()
         port = options.figures and options.figures + options.partition
-        self.figures = Figures(options.partition, port, options.journal)
+        self.figures = Figures(options.partition, options.journal, kinds_at(port))
         parameters = broker.parameters_of(options.broker_file)
         self.link = Link(self.loop, parameters, self.steps_of, self.ready, self.lost)
         macs = ReplyMacs(options.broker_file)

@@ -14,6 +14,8 @@ GUEST = "guest"
 EVERY = "^issuer[.].*"
 OPERATOR_MAY = Permissions(EVERY, EVERY, EVERY)
 BRIDGE_MAY = Permissions("^$", "^issuer[.]replies$", "^issuer[.]requests[.][0-9]+$")
+# Of nodes on several machines, which have streams.
+NODE_MAY = Permissions("^$", "^issuer[.](replies|records)$", "^issuer[.]requests[.][0-9]+([.]records)?$")
 REPLY_QUEUES = "^issuer[.]reply[.]"
 PUBLISHER_MAY = Permissions(f"{REPLY_QUEUES}.*", "^issuer[.](requests|reply[.].*)$", "^issuer[.](replies|reply[.].*)$")
 # What a publisher has of the broker, and all of them together.
@@ -30,7 +32,7 @@ REPLY_POLICY = Policy(
     },
 )
 LOOPBACK = ("127.0.0.1", "::1")
-QUEUES = re.compile(r"issuer[.](requests[.][0-9]+|dead|reply[.].*)")
+QUEUES = re.compile(r"issuer[.](requests[.][0-9]+([.]records)?|dead|reply[.].*)")
 
 
 class Expected(NamedTuple):
@@ -40,6 +42,8 @@ class Expected(NamedTuple):
     operator: str
     bridge: str
     host: str
+    # Whether there are streams, for nodes on several machines.
+    streams: bool = False
 
 
 def what_is_missing(facts: Facts, expected: Expected) -> list[str]:
@@ -51,7 +55,7 @@ def what_is_missing(facts: Facts, expected: Expected) -> list[str]:
 def of_users(facts: Facts, expected: Expected) -> Iterator[str]:
     if GUEST in facts.users:
         yield "the user guest is there, whose password all know: rabbitmqctl delete_user guest"
-    wanted = {expected.operator: OPERATOR_MAY, expected.bridge: BRIDGE_MAY}
+    wanted = {expected.operator: OPERATOR_MAY, expected.bridge: NODE_MAY if expected.streams else BRIDGE_MAY}
     for user, may in wanted.items():
         if user not in facts.users:
             command = set_permissions(user, may, expected.host)
@@ -129,9 +133,25 @@ def of_queues(facts: Facts, expected: Expected) -> Iterator[str]:
             yield f"there is no queue {queue}: run deploy/queues"
         elif facts.queues[queue] != arguments:
             yield f"the queue {queue} has other arguments: delete it while it is empty, and run deploy/queues"
+    yield from of_streams(facts, expected)
     for queue in sorted(facts.queues):
         if queue.startswith("issuer.") and queue not in wanted and not QUEUES.fullmatch(queue):
             yield f"nobody here declares the queue {queue}: look who reads it"
+
+
+def of_streams(facts: Facts, expected: Expected) -> Iterator[str]:
+    """The streams are there, each with as many copies as it has to have. How much it keeps is somebody's choice."""
+    for partition in range(expected.partitions if expected.streams else 0):
+        stream, sizes = broker.stream_of(partition), ("x-max-length-bytes",)
+        if stream not in facts.queues:
+            yield f"there is no stream {stream}: run deploy/queues --streams"
+            continue
+        has = {name: value for name, value in facts.queues[stream].items() if name not in sizes}
+        if has != {name: value for name, value in broker.stream_arguments().items() if name not in sizes}:
+            yield f"the stream {stream} has other arguments, and it can't be declared anew without its records"
+        for queue in (stream, broker.queue_of(partition)):
+            if (queue, queue) not in facts.bindings.get(broker.RECORDS, set()):
+                yield f"the queue {queue} isn't bound to {broker.RECORDS} by its name: run deploy/queues --streams"
 
 
 def of_bindings(facts: Facts, expected: Expected) -> Iterator[str]:
@@ -144,6 +164,9 @@ def of_bindings(facts: Facts, expected: Expected) -> Iterator[str]:
     for queue, key in sorted(bound):
         if queue != f"{broker.REQUESTS}.{key}":
             yield f"the queue {queue} gets a copy of partition {key}'s requests: look who reads it, and unbind it"
+    for queue, key in sorted(facts.bindings.get(broker.RECORDS, set())):
+        if queue != key:
+            yield f"the queue {queue} gets a copy of the records of {key}: look who reads it, and unbind it"
     for queue, key in sorted(facts.bindings.get(broker.REPLIES, set())):
         if queue != key:
             yield f"the queue {queue} gets a copy of the answers to {key}: look who reads it, and unbind it"

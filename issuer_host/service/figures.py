@@ -1,4 +1,4 @@
-"""The figures of a bridge, in Prometheus' text form on the loopback.
+"""The figures of a bridge, or of all partitions of a node, in Prometheus' text form on the loopback.
 
 They are never fatal: without the library, or without the port, there are none.
 """
@@ -29,6 +29,14 @@ KINDS = {
     "free": ("Gauge", "issuer_journal_disk_free_bytes", "Free bytes of the journals' disk"),
     "active": ("Gauge", "issuer_active", "1 if this bridge runs the partition's host"),
 }
+# Of a node's partitions besides.
+KINDS_OF_NODE = {
+    "needed": ("Gauge", "issuer_stream_needed_offset", "The oldest message of the stream that this machine needs"),
+    "read": ("Gauge", "issuer_stream_read_offset", "The last message of the stream that was read"),
+    "uncounted": ("Gauge", "issuer_records_uncounted", "Records of the journals that don't count yet"),
+    "serving": ("Gauge", "issuer_partition_serving", "1 if this machine's barrier counts"),
+    "stopped": ("Gauge", "issuer_partition_stopped", "1 if the partition is stopped here until somebody acts"),
+}
 # These have a label each beside the partition.
 ANSWERS = ("issuer_answers", "Answers by kind; a refusal has its number", ("partition", "kind", "refusal"))
 ENDS = ("issuer_host_ends", "Ends of the host by status; a signal is negative", ("partition", "status"))
@@ -42,44 +50,63 @@ class Nothing:
         return lambda *words, **more: self
 
 
+class Kinds:
+    """The figures of a process, for any partition."""
+
+    def __init__(self, port: int, more: "dict[str, tuple[str, str, str]]") -> None:
+        import prometheus_client
+
+        self.answers_by = prometheus_client.Counter(*ANSWERS)
+        self.ends_by = prometheus_client.Counter(*ENDS)
+        self.orders_by = prometheus_client.Counter(*ORDERS)
+        self.made: dict[str, Any] = {}
+        for attribute, (kind, name, text) in {**KINDS, **more}.items():
+            buckets = {"buckets": SECONDS} if kind == "Histogram" else {}
+            self.made[attribute] = getattr(prometheus_client, kind)(name, text, ("partition",), **buckets)
+        FiguresServer(port, prometheus_client.generate_latest).start()
+
+
+def kinds_at(port: int, more: "Optional[dict[str, tuple[str, str, str]]]" = None) -> Optional[Kinds]:
+    """Returns the figures at a port; None if there are none."""
+    if not port:
+        return None
+    try:
+        return Kinds(port, more or {})
+    except (ImportError, OSError) as fault:
+        tell("bridge", f"no figures: {fault}")
+        return None
+
+
 class Figures:
-    def __init__(self, partition: int, port: int, journal: str) -> None:
+    """The figures of one partition."""
+
+    def __init__(self, partition: int, journal: str, kinds: Optional[Kinds]) -> None:
         self.partition = str(partition)
         self.journal = journal
         self.figures: dict[str, Any] = {}
         self.answers_by: Any = Nothing()
         self.ends_by: Any = Nothing()
         self.orders_by: Any = Nothing()
-        if not port:
-            return
-        try:
-            self.begin(port)
-        except (ImportError, OSError) as fault:
-            tell("bridge", f"no figures: {fault}")
-            self.figures.clear()
+        if kinds is not None:
+            self.begin(kinds)
 
     def __getattr__(self, name: str) -> Any:
-        """A figure by its name in `KINDS`."""
-        if name not in KINDS:
+        """A figure by its name in `KINDS`, or in `KINDS_OF_NODE`."""
+        if name not in KINDS and name not in KINDS_OF_NODE:
             raise AttributeError(name)
         return self.figures.get(name, Nothing())
 
-    def begin(self, port: int) -> None:
-        import prometheus_client
-
-        self.answers_by = prometheus_client.Counter(*ANSWERS)
-        self.ends_by = prometheus_client.Counter(*ENDS)
-        self.orders_by = prometheus_client.Counter(*ORDERS)
+    def begin(self, kinds: Kinds) -> None:
+        self.answers_by = kinds.answers_by
+        self.ends_by = kinds.ends_by
+        self.orders_by = kinds.orders_by
         # (a rate sees no first event of a counter that begins with it)
         for kind in DECISIONS:
             self.answers_by.labels(self.partition, kind, "").inc(0)
         for refusal in REFUSALS:
             self.answers_by.labels(self.partition, REFUSED, str(int(refusal))).inc(0)
-        for attribute, (kind, name, text) in KINDS.items():
-            more = {"buckets": SECONDS} if kind == "Histogram" else {}
-            made = getattr(prometheus_client, kind)(name, text, ("partition",), **more)
+        for attribute, made in kinds.made.items():
             self.figures[attribute] = made.labels(self.partition)
-        FiguresServer(port, prometheus_client.generate_latest).start()
 
     def answered(self, answer: str, seconds: Optional[float]) -> None:
         kind, refusal = kind_of(answer)

@@ -11,13 +11,13 @@ again.
 --streams       declares the streams of all partitions too, for nodes on several machines (deploy/node)
 --stream-bytes  what a stream keeps (2,000,000,000): a machine that was away while more was written begins from copies
 
---check     changes nothing, and asks the broker of this machine by rabbitmqctl, as root. It prints a line for each
+--check         changes nothing, and asks the broker of this machine by rabbitmqctl, as root. It prints a line for each
             thing that is missing, with the command that mends it: users and what they may do, their limits, policies,
             queues and bindings, sizes, listeners and TLS. The status is 1 if something is
---operator  the user of whoever runs this command (issuer-operator)
---bridge    the user of the bridges (issuer-bridge); all others are publishers
---vhost     the virtual host (/)
---control   another command than rabbitmqctl
+--operator      the user of whoever runs this command (issuer-operator)
+--bridge        the user of the bridges or nodes (issuer-bridge); all others are publishers
+--vhost         the virtual host (/)
+--control       another command than rabbitmqctl
 """
 import argparse
 import os
@@ -98,7 +98,7 @@ def declare(options: Options) -> None:
 
 def check(options: Options) -> list[str]:
     """Returns what the broker lacks."""
-    expected = Expected(options.partitions, options.operator, options.bridge, options.vhost)
+    expected = Expected(options.partitions, options.operator, options.bridge, options.vhost, options.streams)
     found = what_is_missing(facts_of(Control(options.control, options.vhost)), expected)
     if options.broker_file:
         with open(options.broker_file, encoding="utf-8") as file:
