@@ -14,6 +14,10 @@ use Rattle.shard_book.specs.Shards.{IsJournalOf, IsLoadImage}
 
 -- `olds` are the old stores before the call, and `read` the same stores after it
 
+-- there is an old store and a store for each shard of the issuer
+abbrev pub AreStoresOf : {S : Type 0} → Setup → List S → List S → Type 0
+AreStoresOf issuer olds stores = (length olds ≡ issuer.shards) × (length stores ≡ issuer.shards)
+
 module _ {S : Type 0} {G : Ghosts S} where
   -- each shard was loaded from the old store and the store with its index
   pub record AreLoaded (issuer : Setup) (olds read stores : List S) (shards : List (Shard S G)) : Type 0 where

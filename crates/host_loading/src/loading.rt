@@ -1,9 +1,8 @@
 //! Loads the shards of a host from their stores, and returns the stores.
-ghost use Rattle.std.specs.Prelude.{◌≡◌, ◌+◌, ◌≤◌, [], ◌∷◌, ◌++◌, length, map, reverse, vec_capacity, IfOk, IfErr, false};
-ghost use Rattle.shard_book.specs.Loading.{is_store_failure};
+ghost use Rattle.std.specs.Prelude.{◌≡◌, ◌+◌, ◌≤◌, [], ◌∷◌, ◌++◌, length, map, reverse, vec_capacity, IfOk, IfErr};
 ghost use Rattle.shard_book.specs.Shards.{store_in};
-ghost use Rattle.host_loading.specs.Loading.{AreLoaded, AreOnlyRead, ComeBack};
-ghost use Rattle.host_loading.specs.StoreRoom.{StoresHaveRoom};
+ghost use Rattle.host_loading.specs.Loading.{AreLoaded, AreOnlyRead, AreStoresOf, ComeBack};
+ghost use Rattle.host_loading.specs.StoreRoom.{StoresWork};
 
 use issuer_base::{NoMemory, Store};
 use issuer_setup::Issuer;
@@ -55,14 +54,13 @@ pub fn load_all<S: Store>(
     stores: Vec<S>,
     lists: Lists<S>,
 ) -> Result<Lists<S>, HostBack<S>>
-    requires count { (length olds.old.items ≡ issuer.now.shards) × (length stores.items ≡ issuer.now.shards) }
-    requires shards { (lists.shards.items ≡ []) × (length stores.items ≤ vec_capacity lists.shards) }
-    requires back { (lists.back.items ≡ []) × (length stores.items ≤ vec_capacity lists.back) }
+    requires count { AreStoresOf issuer.now olds.old.items stores.items }
+    requires lists { (lists.shards.items ≡ []) × (length stores.items ≤ vec_capacity lists.shards)
+        × (lists.back.items ≡ []) × (length stores.items ≤ vec_capacity lists.back) }
     ensures loaded { IfOk result (λ loaded.
         AreLoaded issuer.now olds.old.items olds.new.items stores.items loaded.shards.items) }
     ensures olds { AreOnlyRead S.size S.bytes S.disk S.room olds.old.items olds.new.items }
-    ensures room { IfErr result (λ back. StoresHaveRoom S.size S.room (λ _. 0) olds.old.items stores.items
-        → is_store_failure back.fault ≡ false) }
+    ensures room { IfErr result (λ back. StoresWork S.size S.room olds.old.items stores.items back.fault) }
     ensures back { IfOk result
         (λ loaded. (loaded.back.items ≡ []) × (vec_capacity loaded.back ≡ vec_capacity lists.back)) }
     ensures stopped { IfErr result (λ back. ComeBack S.size S.bytes S.disk S.faults issuer.now

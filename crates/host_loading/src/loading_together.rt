@@ -1,9 +1,8 @@
 //! Loads the shards of a host at once, in several threads.
-ghost use Rattle.std.specs.Prelude.{◌≡◌, ℕ, ◌<◌, ◌≤◌, [], length, map, vec_len, vec_capacity, All, None, Some, IfOk, IfErr, MatchOption, false};
+ghost use Rattle.std.specs.Prelude.{◌≡◌, ℕ, ◌<◌, ◌≤◌, [], length, map, vec_len, vec_capacity, All, None, Some, IfOk, IfErr, MatchOption};
 ghost use Rattle.issuer_base.specs.declared.limits.TheConstants.{MAX_SHARDS};
-ghost use Rattle.shard_book.specs.Loading.{is_store_failure};
-ghost use Rattle.host_loading.specs.Loading.{AreLoaded, AreOnlyRead, ComeBackTogether};
-ghost use Rattle.host_loading.specs.StoreRoom.{StoresHaveRoom};
+ghost use Rattle.host_loading.specs.Loading.{AreLoaded, AreOnlyRead, AreStoresOf, ComeBackTogether};
+ghost use Rattle.host_loading.specs.StoreRoom.{StoresWork};
 ghost use Rattle.host_loading.specs.Slots.{HasEnded, HasTried, HaveTried, IsFirstFailed, IsWaiting, fault_in, left_in, loaded_as, store_of};
 
 use crate::loading::{HostBack, Lists};
@@ -79,15 +78,14 @@ pub fn load_together<S: Store + Send, R: Threads + Sync>(
     lists: Lists<S>,
     callers: u8,
 ) -> Result<Lists<S>, HostBack<S>>
-    requires count { (length olds.old.items ≡ issuer.now.shards) × (length stores.items ≡ issuer.now.shards) }
-    requires shards { (lists.shards.items ≡ []) × (length stores.items ≤ vec_capacity lists.shards) }
-    requires back { (lists.back.items ≡ []) × (length stores.items ≤ vec_capacity lists.back) }
+    requires count { AreStoresOf issuer.now olds.old.items stores.items }
+    requires lists { (lists.shards.items ≡ []) × (length stores.items ≤ vec_capacity lists.shards)
+        × (lists.back.items ≡ []) × (length stores.items ≤ vec_capacity lists.back) }
     requires callers { 0 < callers }
     ensures loaded { IfOk result (λ loaded.
         AreLoaded issuer.now olds.old.items olds.new.items stores.items loaded.shards.items) }
     ensures olds { AreOnlyRead S.size S.bytes S.disk S.room olds.old.items olds.new.items }
-    ensures room { IfErr result (λ back. StoresHaveRoom S.size S.room (λ _. 0) olds.old.items stores.items
-        → is_store_failure back.fault ≡ false) }
+    ensures room { IfErr result (λ back. StoresWork S.size S.room olds.old.items stores.items back.fault) }
     ensures back { IfOk result
         (λ loaded. (loaded.back.items ≡ []) × (vec_capacity loaded.back ≡ vec_capacity lists.back)) }
     ensures stopped { IfErr result (λ back. ComeBackTogether S.size S.bytes S.disk S.faults issuer.now

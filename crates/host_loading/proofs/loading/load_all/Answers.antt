@@ -100,7 +100,7 @@ loop-number-init g c =
     let stores = c.args.stores.items in
     record {
       loading =
-          subst (λ shards. IsLoading {G = g.S.Store} issuer olds olds stores shards (reverse c.reverse.new.self.items)) (sym c.requires.shards.0)
+          subst (λ shards. IsLoading {G = g.S.Store} issuer olds olds stores shards (reverse c.reverse.new.self.items)) (sym c.requires.lists.0)
           (subst (λ ahead. IsLoading {G = g.S.Store} issuer olds olds stores [] ahead) (sym (ap reverse c.reverse.ensures.items ∙ reverse-reverse stores))
           (loading-none issuer olds stores (c.requires.count.0 ∙ sym c.requires.count.1)));
       count = search rules;

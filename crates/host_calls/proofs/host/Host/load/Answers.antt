@@ -20,3 +20,7 @@ returns-clause-issuer g c = rw c.keep_all.ensures at c.open.ensures.issuer
 
 pub returns-clause-opening : goal.returns-clause-opening
 returns-clause-opening g c = rw (c.keep_all.ensures, c.of-old.ensures, c.of-before.ensures) at c.open.ensures.opening
+
+pub load_all-requires-clause-lists : goal.load_all-requires-clause-lists
+load_all-requires-clause-lists g c =
+    (c.in-Ok.ensures.shards.0, search rules, c.in-Ok.ensures.back.0, search rules)

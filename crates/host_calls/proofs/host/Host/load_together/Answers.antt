@@ -25,3 +25,7 @@ returns-clause-issuer g c = rw c.keep_all.ensures at c.open.ensures.issuer
 
 pub returns-clause-opening : goal.returns-clause-opening
 returns-clause-opening g c = rw (c.keep_all.ensures, c.of-old.ensures, c.of-before.ensures) at c.open.ensures.opening
+
+pub load_together-requires-clause-lists : goal.load_together-requires-clause-lists
+load_together-requires-clause-lists g c κs within =
+    (c.in-Ok.ensures.shards.0, search rules, c.in-Ok.ensures.back.0, search rules)
