@@ -1,8 +1,12 @@
 -- The model of a desk in memory, and what it opens under a name.
-use Rattle.std.specs.Prelude.{ℕ, ◌-◌, ◌^◌, List, [], reverse, find, bytes_eq, Option, None, Some}
+use Rattle.std.specs.Prelude.{ℕ, ◌-◌, ◌^◌, Bool, false, true, List, [], reverse, find, bytes_eq, Option, None, Some}
+use Rattle.std.specs.Prelude.{Result, Ok, Err}
 use Rattle.std.specs.Option.{option_map}
-use Rattle.issuer_base.specs.Desk.{FailedCall}
-use Rattle.memory_edge.specs.OutsideMemory.{Calls, SourceState, no_calls}
+use Rattle.issuer_base.specs.Desk.{FailedCall, last_after}
+use Rattle.issuer_base.specs.declared.outside.DeskCall.{DeskCall}
+use Rattle.issuer_base.specs.declared.outside.DeskFault.{DeskFault}
+use Rattle.issuer_base.specs.declared.outside.DeskFault.TheVariants.{Fault, NoMemory}
+use Rattle.memory_edge.specs.OutsideMemory.{Calls, SourceState, after_call, no_calls}
 use Rattle.memory_edge.specs.MemoryStores.{StoreState, opened_store}
 use Rattle.memory_edge.specs.declared.memory_desk.TheConstants.{NEW_JOURNAL_ROOM}
 
@@ -59,3 +63,18 @@ store_under journals name = store_over (journal_under journals name)
 -- the bytes of the journal under each name
 abbrev pub logs_under : List HeldJournal → List ℕ → Option (List ℕ)
 logs_under journals name = Some (store_under journals name).disk.now.bytes
+
+-- the desk after a call that was given this name, and failed or not
+abbrev pub after_one : DeskCall → List ℕ → Bool → DeskState → DeskState
+after_one call name failed desk = record {
+  inputs = desk.inputs;
+  journals = desk.journals;
+  calls = after_call desk.calls failed;
+  last_fault = last_after call name failed desk.last_fault;
+}
+
+-- the desk after a call with this answer: one that ran out of memory isn't counted
+abbrev pub after_open : {T : Type 0} → DeskCall → List ℕ → Result T DeskFault → DeskState → DeskState
+after_open call name (Ok opened) desk = after_one call name false desk
+after_open call name (Err Fault) desk = after_one call name true desk
+after_open call name (Err NoMemory) desk = desk

@@ -1,14 +1,12 @@
 //! A desk over inputs and journals in memory.
-ghost use Rattle.std.specs.Prelude.{◌≡◌, ◌⊎◌, ℕ, List, [], ◌∷◌, ◌++◌, false, true, None, Some, IfOk, IfSome, OnOk, OnErr, IsNone, IsErr, IsErrOf, string_bytes};
+ghost use Rattle.std.specs.Prelude.{◌≡◌, ◌⊎◌, [], ◌∷◌, ◌++◌, false, true, None, Some, IfOk, OnOk, OnErr, IsNone, IsErrOf, string_bytes};
 ghost use Rattle.std.specs.Option.{option_copied, option_map};
-ghost use Rattle.issuer_base.specs.Desk.{is_fault, last_after};
+ghost use Rattle.issuer_base.specs.Desk.{is_fault};
 ghost use Rattle.issuer_base.specs.OutsideFaults.{CountsFaults};
 ghost use Rattle.memory_edge.specs.OutsideMemory.{after_call, is_next_listed};
-ghost use Rattle.issuer_base.specs.Tells.{Tells};
 ghost use Rattle.issuer_base.specs.declared.outside.DeskCall.TheVariants.{Log, Read};
 ghost use Rattle.issuer_base.specs.declared.outside.DeskFault.TheVariants.{Fault};
-ghost use Rattle.memory_edge.specs.MemoryStores.{opened_store};
-ghost use Rattle.memory_edge.specs.MemoryDesks.{bytes_under, empty_desk, input_under, journal_under, logs_under, source_over, store_over, store_under};
+ghost use Rattle.memory_edge.specs.MemoryDesks.{after_open, bytes_under, empty_desk, input_under, journal_under, logs_under, source_over, store_over, store_under};
 
 use crate::failing_calls::FailingCalls;
 use crate::memory_source::MemorySource;
@@ -205,23 +203,13 @@ impl Desk for MemoryDesk {
     ///
     /// A call that runs out of memory is not counted, and leaves the desk as it was.
     fn read(&mut self, name: &str) -> Result<MemorySource, DeskFault>
-        ensures input { IfOk result (λ input. Tells (bytes_under self.old.inputs name.now) (Some input.left)) }
-        ensures absent { bytes_under self.old.inputs name.now ≡ Some None → IsErr result }
-        ensures new { IfOk result (λ input. input.calls.faults ≡ 0) }
-        ensures kept { bytes_under self.new.inputs ≡ bytes_under self.old.inputs }
-        ensures kept_logs { logs_under self.new.journals ≡ logs_under self.old.journals }
-        ensures count { CountsFaults self.old.calls.faults self.new.calls.faults (is_fault result) }
-        ensures last { self.new.last_fault ≡ last_after Read name.now (is_fault result) self.old.last_fault }
         ensures ok { OnOk result (is_next_listed self.old.calls ≡ false) }
         ensures given { IfOk result (λ input. option_map source_over (input_under self.old.inputs name.now)
             ≡ Some input) }
         ensures fault { IsErrOf result DeskFault.Fault
             → (is_next_listed self.old.calls ≡ true) ⊎ IsNone (input_under self.old.inputs name.now) }
-        ensures inputs { self.new.inputs ≡ self.old.inputs }
-        ensures journals { self.new.journals ≡ self.old.journals }
-        ensures counted { OnOk result (self.new.calls ≡ after_call self.old.calls false) }
-        ensures counted_fault { IsErrOf result DeskFault.Fault → self.new.calls ≡ after_call self.old.calls true }
-        ensures unchanged { IsErrOf result DeskFault.NoMemory → self.new ≡ self.old }
+        ensures after { self.new ≡ after_open Read name.now result self.old }
+        ensures count { CountsFaults self.old.calls.faults self.new.calls.faults (is_fault result) }
     {
         let asked = String::from_str(self.alloc, name)?;
         if !self.calls.is_next_listed()
@@ -238,24 +226,11 @@ impl Desk for MemoryDesk {
     ///
     /// A call that runs out of memory is not counted, and leaves the desk as it was.
     fn log(&mut self, name: &str) -> Result<MemoryStore, DeskFault>
-        ensures journal { IfOk result (λ journal. IfSome (logs_under self.old.journals name.now)
-            (λ held. Some journal.disk.now.bytes ≡ Some held)) }
-        ensures untouched { IfOk result (λ journal. journal.disk.past ≡ []) }
-        ensures new { IfOk result (λ journal. journal.calls.faults ≡ 0) }
-        ensures kept { bytes_under self.new.inputs ≡ bytes_under self.old.inputs }
-        ensures others { (other : List ℕ) → (other ≡ name.now → ⊥)
-            → logs_under self.new.journals other ≡ logs_under self.old.journals other }
-        ensures refused { OnErr result (logs_under self.new.journals ≡ logs_under self.old.journals) }
-        ensures count { CountsFaults self.old.calls.faults self.new.calls.faults (is_fault result) }
-        ensures last { self.new.last_fault ≡ last_after Log name.now (is_fault result) self.old.last_fault }
         ensures ok { OnOk result (is_next_listed self.old.calls ≡ false) }
         ensures given { IfOk result (λ journal. journal ≡ store_under self.old.journals name.now) }
         ensures fault { IsErrOf result DeskFault.Fault → is_next_listed self.old.calls ≡ true }
-        ensures inputs { self.new.inputs ≡ self.old.inputs }
-        ensures journals { self.new.journals ≡ self.old.journals }
-        ensures counted { OnOk result (self.new.calls ≡ after_call self.old.calls false) }
-        ensures counted_fault { IsErrOf result DeskFault.Fault → self.new.calls ≡ after_call self.old.calls true }
-        ensures unchanged { IsErrOf result DeskFault.NoMemory → self.new ≡ self.old }
+        ensures after { self.new ≡ after_open Log name.now result self.old }
+        ensures count { CountsFaults self.old.calls.faults self.new.calls.faults (is_fault result) }
     {
         let asked = String::from_str(self.alloc, name)?;
         if self.calls.is_next_listed() {

@@ -1,6 +1,5 @@
 //! A sink in memory.
 ghost use Rattle.std.specs.Prelude.{◌≡◌, ◌+◌, ◌<◌, [], ◌||◌, nat_lt, length, Some, is_err, IfOk};
-ghost use Rattle.std.specs.Io.{WritesAtMost};
 ghost use Rattle.std.specs.Io.KnownBytes.{WriteAppends};
 ghost use Rattle.issuer_base.specs.OutsideFaults.{CountsFaults};
 ghost use Rattle.memory_edge.specs.OutsideMemory.{after_call, is_next_listed, no_calls};
@@ -60,8 +59,6 @@ impl Sink for MemorySink {
     /// Fails exactly at a listed call and where the piece goes past the room, and else appends all of it.
     fn write(&mut self, piece: &[u8]) -> Result<usize, WriteFault>
         requires { 0 < length piece.now }
-        ensures some { IfOk result (λ n. 0 < n) }
-        ensures bound { WritesAtMost result piece.now }
         ensures bytes { WriteAppends (Some self.old.held) (Some self.new.held) result piece.now }
         ensures count { CountsFaults self.old.calls.faults self.new.calls.faults (is_err result) }
         ensures fails { is_err result ≡ (is_next_listed self.old.calls

@@ -176,16 +176,12 @@ impl Store for MemoryStore {
     fn read_at(&mut self, at: u64, into: &mut [u8]) -> Result<usize, StoreFail>
         requires { 0 < length into.old }
         ensures bound { ReadsAtMost result into.new }
-        ensures some { at < length self.old.disk.now.bytes → IfOk result (λ n. 0 < n) }
-        ensures none { length self.old.disk.now.bytes ≤ at → IfOk result (λ n. n ≡ 0) }
         ensures given { IfOk result (λ n. take n into.new ≡ take n (drop at self.old.disk.now.bytes)) }
-        ensures size { length self.new.disk.now.bytes ≡ length self.old.disk.now.bytes }
-        ensures bytes { self.new.disk.now.bytes ≡ self.old.disk.now.bytes }
-        ensures disk { KeepsDisk self.old.disk self.new.disk }
-        ensures count { CountsFaults self.old.calls.faults self.new.calls.faults (is_err result) }
         ensures full { IfOk result (λ n. n ≡ min (length self.old.disk.now.bytes - at) (length into.old)) }
+        ensures disk { KeepsDisk self.old.disk self.new.disk }
         ensures failed { is_err result ≡ is_next_listed self.old.calls }
         ensures after { self.new ≡ after_read self.old }
+        ensures count { CountsFaults self.old.calls.faults self.new.calls.faults (is_err result) }
     {
         if self.calls.count_call() {
             self.calls.count_fault();

@@ -1,8 +1,7 @@
 //! A store in memory that exposes its bytes and its room.
-ghost use Rattle.std.specs.Prelude.{◌≡◌, ◌⊎◌, ◌+◌, ◌-◌, ◌<◌, ◌≤◌, [], min, nat_lt, length, take, drop, Some, is_err, IfOk, IsOk, OnErr, OnOk};
+ghost use Rattle.std.specs.Prelude.{◌≡◌, ◌+◌, ◌-◌, ◌<◌, ◌≤◌, ◌++◌, [], min, nat_lt, length, take, drop, Some, is_err, IfOk, IsOk, OnErr, OnOk};
 ghost use Rattle.std.specs.Io.{ReadsAtMost};
 ghost use Rattle.issuer_base.specs.OutsideFaults.{CountsFaults};
-ghost use Rattle.issuer_base.specs.Stores.{AppendsToBytes, CutsBytes, WorksWithin};
 ghost use Rattle.std.proofs.Common.{refl};
 
 use crate::copy::copy_from;
@@ -74,15 +73,9 @@ impl Store for RoomStore {
     fn read_at(&mut self, at: u64, into: &mut [u8]) -> Result<usize, StoreFail>
         requires { 0 < length into.old }
         ensures bound { ReadsAtMost result into.new }
-        ensures some { at < length self.old.held → IfOk result (λ n. 0 < n) }
-        ensures none { length self.old.held ≤ at → IfOk result (λ n. n ≡ 0) }
         ensures given { IfOk result (λ n. take n into.new ≡ take n (drop at self.old.held)) }
-        ensures size { length self.new.held ≡ length self.old.held }
-        ensures bytes { Some self.new.held ≡ Some self.old.held }
-        ensures told { WorksWithin 0 (is_err result) (length self.old.held) (Some self.old.room) (Some self.new.room) }
-        ensures count { CountsFaults self.old.faults self.new.faults (is_err result) }
-        ensures ok { IsOk result }
         ensures full { IfOk result (λ n. n ≡ min (length self.old.held - at) (length into.old)) }
+        ensures ok { IsOk result }
         ensures same { self.new ≡ self.old }
     {
         Ok(copy_from(&self.bytes, at, into))
@@ -91,15 +84,11 @@ impl Store for RoomStore {
     /// Fails exactly where the piece goes past the room, and then takes none of it.
     fn append(&mut self, piece: &[u8]) -> Result<(), StoreFail>
         ensures limit { OnOk result (length self.new.held ≤ MAX_STORE_BYTES) }
-        ensures size { OnOk result (length self.new.held ≡ length self.old.held + length piece.now) }
-        ensures size_err { OnErr result (length self.old.held ≤ length self.new.held) }
-        ensures bytes { AppendsToBytes piece.now (is_err result) self.old.held self.new.held }
-        ensures told { WorksWithin (length piece.now) (is_err result) (length self.old.held) (Some self.old.room)
-            (Some self.new.room) }
-        ensures count { CountsFaults self.old.faults self.new.faults (is_err result) }
-        ensures fails { is_err result ≡ nat_lt self.old.room (length self.old.held + length piece.now) }
+        ensures bytes { OnOk result (self.new.held ≡ self.old.held ++ piece.now) }
         ensures err { OnErr result (self.new.held ≡ self.old.held) }
+        ensures fails { is_err result ≡ nat_lt self.old.room (length self.old.held + length piece.now) }
         ensures room { self.new.room ≡ self.old.room }
+        ensures count { CountsFaults self.old.faults self.new.faults (is_err result) }
     {
         if piece.len() > self.room - self.bytes.len() {
             self.faults = self.faults.saturating_add(1);
@@ -112,11 +101,6 @@ impl Store for RoomStore {
     /// Never fails.
     fn cut(&mut self, len: u64) -> Result<(), StoreFail>
         requires { len ≤ length self.old.held }
-        ensures size { OnOk result (length self.new.held ≡ len) }
-        ensures size_err { OnErr result ((length self.new.held ≡ length self.old.held) ⊎ (length self.new.held ≡ len)) }
-        ensures bytes { CutsBytes len (is_err result) self.old.held self.new.held }
-        ensures told { WorksWithin 0 (is_err result) (length self.old.held) (Some self.old.room) (Some self.new.room) }
-        ensures count { CountsFaults self.old.faults self.new.faults (is_err result) }
         ensures ok { IsOk result }
         ensures cut { self.new ≡ record self.old { held = take len self.old.held } }
     {
@@ -126,10 +110,6 @@ impl Store for RoomStore {
 
     /// Never fails.
     fn sync(&mut self) -> Result<(), StoreFail>
-        ensures size { length self.new.held ≡ length self.old.held }
-        ensures bytes { Some self.new.held ≡ Some self.old.held }
-        ensures told { WorksWithin 0 (is_err result) (length self.old.held) (Some self.old.room) (Some self.new.room) }
-        ensures count { CountsFaults self.old.faults self.new.faults (is_err result) }
         ensures ok { IsOk result }
         ensures same { self.new ≡ self.old }
     {
