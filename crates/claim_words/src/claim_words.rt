@@ -6,9 +6,9 @@ ghost use Rattle.claim_words.specs.ClaimViews.{joined};
 ghost use Rattle.claim_words.specs.Layout.{words_for};
 ghost use Rattle.shared_seats.specs.SeatNames.{first_names, IsWhole};
 
+use crate::atc_claimed_once::{ClaimRule, Claims, Marks, Opening, Parts, Releases, Tops};
 use crate::layout::{COUNTERS, claim_mask, claim_word, other_claims, told, top_word};
 use crate::opening::opening_words;
-use crate::rule::{ClaimRule, Claims, Marks, Opening, Parts, Releases, Tops};
 use crate::view::{ClaimView, Standing};
 use atomic_table::{Seat, Table};
 use issuer_base::{MAX_CARDS, NoMemory};

@@ -4,10 +4,10 @@
 //! bit in one atomic step, and the caller that finds it clear has won. No call waits, and only `load` allocates.
 #![tactic(auto)]
 
+mod atc_claimed_once;
 mod claim_words;
 mod layout;
 mod opening;
-mod rule;
 mod view;
 
 pub use claim_words::{Claim, ClaimSeat, ClaimWords};

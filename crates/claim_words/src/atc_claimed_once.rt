@@ -1,4 +1,4 @@
-//! The invariant of the words, and the names of its steps.
+//! The rule of the words, by which an ATC of a card is claimed once: their invariant, and the names of its steps.
 ghost use Rattle.shared_seats.specs.SeatNames.{first_names};
 ghost use Rattle.claim_words.specs.ClaimRule.{AreClaims};
 ghost use Rattle.claim_words.specs.ClaimSteps.{claimed, released, marked, topped};
