@@ -5,7 +5,7 @@ ghost use Rattle.issuer_base.specs.declared.outside.DeskFault.TheVariants.{Fault
 
 use crate::file_source::FileSource;
 use crate::file_store::FileStore;
-use crate::journal_file::{FileId, open_journal};
+use crate::locked_journal::{FileId, open_locked_journal};
 use crate::named_call::NamedCall;
 use issuer_base::{Desk, DeskCall, DeskFault};
 use std::fs::File;
@@ -74,7 +74,7 @@ impl Desk for FileDesk {
     /// last bytes are rewritten once the store is changed or synced.
     fn log(&mut self, name: &str) -> Result<FileStore, DeskFault> {
         let asked = String::from_str(self.rt.alloc(), name)?;
-        match open_journal(&self.rt, name, &mut self.synced) {
+        match open_locked_journal(&self.rt, name, &mut self.synced) {
             Ok(store) => Ok(store),
             Err(_) => Err(self.fail(DeskCall::Log, asked)),
         }

@@ -7,7 +7,7 @@ mod file_desk;
 mod file_sink;
 mod file_source;
 mod file_store;
-mod journal_file;
+mod locked_journal;
 mod named_call;
 mod process;
 mod retry;

@@ -42,7 +42,7 @@ struct Opened {
 /// A store over the file at this path, locked, with its bytes and its entry in the directory synced.
 ///
 /// The directory is synced unless it is the one that was synced last, and the file was there before.
-pub(crate) fn open_journal(
+pub(crate) fn open_locked_journal(
     rt: &HostRuntime,
     name: &str,
     synced: &mut Option<FileId>,
