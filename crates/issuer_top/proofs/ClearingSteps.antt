@@ -31,14 +31,12 @@ use Rattle.line_blocks.specs.declared.served.Served.TheVariants.{TooLong as Long
 use Rattle.line_serving.specs.Clearing.{Clears}
 use Rattle.issuer_top.specs.declared.ending.Ending.{Ending}
 use Rattle.issuer_top.specs.Seen.{Seen, SeenInput}
-use Rattle.issuer_top.specs.Opening.{GivesInput, stop_of}
+use Rattle.issuer_top.specs.Opening.{GivesInput, SaysIssuer, stop_of}
 use Rattle.issuer_top.specs.Opened.{OpenedConfigOnly, OpenedBothInputs}
 use Rattle.issuer_top.specs.Stopping.{EndsServing}
-use Rattle.command_line.specs.Command.{IsClear}
-use Rattle.issuer_top.specs.PinChanges.{SaysIssuer}
 use Rattle.issuer_top.specs.ReadAgain.{StayLoaded, FailOnlyAt, StopsReading, failed_at, none_fails, stop_of_reading}
-use Rattle.issuer_top.specs.Clearing.{IsClearing, LoadsToClear, FilesBooks, ChecksLines}
-use Rattle.issuer_top.specs.Endings.{HasIssuer, EndsBy}
+use Rattle.issuer_top.specs.Clearing.{LoadsToClear, FilesBooks, ChecksLines, ways_to_clear}
+use Rattle.issuer_top.specs.Ways.{EndsBy}
 use Rattle.issuer_top.proofs.EndingSteps.{told-given, ends_by_stop, ends_at_once, StopsAtOnce}
 use Rattle.issuer_top.proofs.ReadingSteps.{are-read, fail-read, fail-same, fails-at, stops-reading}
 
@@ -79,61 +77,39 @@ module _ {S : Type 0} (G : Ghosts S) (issuer : Setup) (prefix : List ℕ) (logs 
 
 -- ---- the ways that a clearing check ends
 
--- the words and the configuration are as they should be
-pub is-clearing : (seen : Seen) (config clearing journal : List ℕ) (issuer : Setup)
-    → IsClear seen.words config clearing journal → SaysIssuer seen config issuer
-    → IsClearing seen clearing journal issuer
-is-clearing seen config clearing journal issuer command said =
-    record { config = config; command = command; said = said }
+-- the configuration says an issuer that stays the same
+pub says-same : (seen : Seen) (config : List ℕ) (issuer other : Setup) → other ≡ issuer → SaysIssuer seen config issuer
+    → SaysIssuer seen config other
+says-same seen config issuer other same said = subst (λ (i : Setup). SaysIssuer seen config i) (sym same) said
 
--- so they are of an issuer that stays the same
-pub clearing-same : (seen : Seen) (clearing journal : List ℕ) (issuer other : Setup) → other ≡ issuer
-    → IsClearing seen clearing journal issuer → IsClearing seen clearing journal other
-clearing-same seen clearing journal issuer other same set_up =
-    subst (λ (i : Setup). IsClearing seen clearing journal i) (sym same) set_up
-
--- and so are the journals, of which the desk tells the same
+-- so are the journals, of which the desk tells the same
 pub loaded-same : (issuer : Setup) (prefix : List ℕ) (logs other : Logged) (journals : SeenJournals) → logs ≡ other
     → AreLoadedFrom issuer prefix logs journals → AreLoadedFrom issuer prefix other journals
 loaded-same issuer prefix logs other journals same loaded =
     subst (λ (l : Logged). AreLoadedFrom issuer prefix l journals) same loaded
 
--- they are those of a command over journals
-pub clear-issuer : (seen : Seen) (clearing journal : List ℕ) (issuer : Setup) → IsClearing seen clearing journal issuer
-    → HasIssuer seen journal issuer
-clear-issuer seen clearing journal issuer set_up = record {
-  config = set_up.config;
-  command = inr (inl (clearing, set_up.command));
-  said = set_up.said;
-}
-
-module _ (seen : Seen) (clearing journal : List ℕ) (issuer : Setup) (set_up : IsClearing seen clearing journal issuer)
+module _ (config clearing journal : List ℕ) (seen : Seen) (issuer : Setup) (said : SaysIssuer seen config issuer)
     (stay : StayLoaded issuer journal seen.desk.logs seen.journals) where
-  loads : LoadsToClear seen
-  loads = record { clearing = clearing; journal = journal; issuer = issuer; set_up = set_up; stay = stay }
+  loads : LoadsToClear config journal seen
+  loads = record { issuer = issuer; said = said; stay = stay }
 
   -- no memory was left to check lines with
   pub ends_unchecked : FailOnlyAt seen.journals.stores none_fails → (ending : Ending) → OpenedConfigOnly seen
-      → StopsAtOnce seen NoMemory ending → EndsBy seen ending
+      → StopsAtOnce seen NoMemory ending → EndsBy (ways_to_clear config clearing journal seen) seen ending
   unfolding loads
   ends_unchecked counted ending opened stopping =
-      ends_at_once seen NoMemory ending
-      (inr (inr (inr (inr (inl (record {
-        loaded = loads;
-        stood = counted;
-        opened = opened;
-        told = refl;
-      })))))) stopping
+      ends_at_once (ways_to_clear config clearing journal seen) seen NoMemory ending
+      (inr (record { loaded = loads; stood = counted; opened = opened; last = refl })) stopping
 
   -- the journals couldn't be filed
   pub ends_unfiled : (fault : FilingFault) (shard : ℕ) → FailOnlyAt seen.journals.stores (failed_at fault shard)
       → (ending : Ending) → OpenedConfigOnly seen
       → StopsReading seen.journals.stores shard fault → StopsAtOnce seen (stop_of_reading fault shard) ending
-      → EndsBy seen ending
+      → EndsBy (ways_to_clear config clearing journal seen) seen ending
   unfolding loads
   ends_unfiled StoreFails shard counted ending opened cause stopping =
-      ends_at_once seen (StoreFault shard) ending
-      (inr (inl (record {
+      ends_at_once (ways_to_clear config clearing journal seen) seen (StoreFault shard) ending
+      (inr (record {
         loaded = loads;
         opened = opened;
         fault = StoreFails;
@@ -142,10 +118,10 @@ module _ (seen : Seen) (clearing journal : List ℕ) (issuer : Setup) (set_up : 
         cause = cause;
         stop_is = refl;
         last = refl;
-      }))) stopping
+      })) stopping
   ends_unfiled (BadLine line) shard counted ending opened cause stopping =
-      ends_at_once seen (BadJournal shard line) ending
-      (inr (inl (record {
+      ends_at_once (ways_to_clear config clearing journal seen) seen (BadJournal shard line) ending
+      (inr (record {
         loaded = loads;
         opened = opened;
         fault = BadLine line;
@@ -154,7 +130,7 @@ module _ (seen : Seen) (clearing journal : List ℕ) (issuer : Setup) (set_up : 
         cause = cause;
         stop_is = refl;
         last = refl;
-      }))) stopping
+      })) stopping
   ends_unfiled NoRoom shard counted ending opened cause stopping = ends_unchecked counted ending opened stopping
 
   -- the desk gave no clearing file
@@ -162,11 +138,11 @@ module _ (seen : Seen) (clearing journal : List ℕ) (issuer : Setup) (set_up : 
       → is_some seen.config ≡ true → is_some seen.requests ≡ false
       → between ≡ seen.desk.faults_before → CountsFaults between seen.desk.faults_after (is_fault {T = T} (Err fault))
       → seen.desk.last_fault ≡ last_after Read clearing (is_fault {T = T} (Err fault)) other
-      → StopsAtOnce seen (stop_of fault) ending → EndsBy seen ending
+      → StopsAtOnce seen (stop_of fault) ending → EndsBy (ways_to_clear config clearing journal seen) seen ending
   unfolding loads
   ends_no_clearing counted T other between Fault ending with_config no_requests stood desk_count last stopping =
-      ends_at_once seen ReadFault ending
-      (inr (inr (inr (inr (inl (record {
+      ends_at_once (ways_to_clear config clearing journal seen) seen ReadFault ending
+      (inr (inl (record {
         loaded = loads;
         stood = counted;
         fails = record {
@@ -175,8 +151,8 @@ module _ (seen : Seen) (clearing journal : List ℕ) (issuer : Setup) (set_up : 
           rose = subst (λ (n : ℕ). Rose n seen.desk.faults_after) stood desk_count.counted;
           call_is = last;
         };
-        told = refl;
-      }))))))
+        last = refl;
+      })))
       stopping
   ends_no_clearing counted T other between NoDeskRoom ending with_config no_requests stood desk_count last stopping =
       ends_unchecked counted ending (record {
@@ -193,7 +169,7 @@ module _ (seen : Seen) (clearing journal : List ℕ) (issuer : Setup) (set_up : 
     lines-checked : (text_of : Setup → List Filed → List (List ℕ) → List ℕ)
         (Which : List ℕ → List ℕ → List (List ℕ) → Type 0) (Written : List ℕ → Type 0)
         → (served : ServesLines Which (λ lines text. text ≡ text_of issuer records lines) Written left input.left)
-        → ChecksLines text_of seen served.text
+        → ChecksLines text_of config clearing journal seen served.text
     unfolding loads
     lines-checked text_of Which Written served = record {
       loaded = loads;
@@ -216,29 +192,29 @@ module _ (seen : Seen) (clearing journal : List ℕ) (issuer : Setup) (set_up : 
         → Clears issuer records left input.left seen.sink.held_before held served
         → CountsFaults seen.sink.faults_before faults (write_failed served)
         → fresh ≡ 0 → (read_failed served ≡ true → Rose fresh input.faults)
-        → EndsServing held seen.sink.held_after faults seen.sink.faults_after served ending → EndsBy seen ending
+        → EndsServing held seen.sink.held_after faults seen.sink.faults_after served ending → EndsBy (ways_to_clear config clearing journal seen) seen ending
     unfolding loads lines-checked
     ends_clearing All ending held faults fresh serves counts none failed ends =
         let written : Appends seen.sink.held_before seen.sink.held_after serves.text =
         subst (λ (h : Option (List ℕ)). Appends seen.sink.held_before h serves.text) (sym ends.same) serves.written in
-        subst (EndsBy seen) (sym ends.ending_is) (
+        subst (EndsBy (ways_to_clear config clearing journal seen) seen) (sym ends.ending_is) (
           serves.text,
-          inr (inr (inr (inr (inr (inl (record {
+          record {
             lines = lines-checked clear_text AreAllLines (Appends seen.sink.held_before held) serves;
             which = serves.which;
-          })))))),
+          },
           written,
         )
     ends_clearing SinkFault ending held faults fresh serves counts none failed ends =
-        subst (EndsBy seen) (sym ends.ending_is)
+        subst (EndsBy (ways_to_clear config clearing journal seen) seen) (sym ends.ending_is)
         (⊎_elim
         (λ begun. record {
           rose = subst (Rose seen.sink.faults_before) (sym ends.stood) counts.counted;
           text = begun.text;
-          due = inr (inr (inr (inr (inr (inr (inl (record {
+          due = inr (inl (record {
             lines = lines-checked verdicts_text AreFirstLines (AppendsFront seen.sink.held_before held) begun;
             which = begun.which;
-          })))))));
+          }));
           front =
               subst (λ (h : Option (List ℕ)). AppendsFront seen.sink.held_before h begun.text) (sym ends.same)
               begun.written;
@@ -246,10 +222,10 @@ module _ (seen : Seen) (clearing journal : List ℕ) (issuer : Setup) (set_up : 
         (λ whole. record {
           rose = subst (Rose seen.sink.faults_before) (sym ends.stood) counts.counted;
           text = whole.text;
-          due = inr (inr (inr (inr (inr (inr (inr (inl (record {
+          due = inr (inr (record {
             lines = lines-checked clear_text AreAllLines (AppendsFront seen.sink.held_before held) whole;
             which = whole.which;
-          }))))))));
+          }));
           front =
               subst (λ (h : Option (List ℕ)). AppendsFront seen.sink.held_before h whole.text) (sym ends.same)
               whole.written;
@@ -257,8 +233,8 @@ module _ (seen : Seen) (clearing journal : List ℕ) (issuer : Setup) (set_up : 
         serves)
     ends_clearing ReadStopped ending held faults fresh serves counts none failed ends =
         let rose : Rose 0 input.faults = subst (λ (n : ℕ). Rose n input.faults) none (failed refl) in
-        ends_by_stop seen held faults ReadFault ending serves.text
-        (inr (inr (inr (inr (inr (inl (record {
+        ends_by_stop (ways_to_clear config clearing journal seen) seen held faults ReadFault ending serves.text
+        (inr (inr (record {
           verdicts = serves.text;
           lines =
               lines-checked verdicts_text (λ file read asked. AreWholeLines read asked)
@@ -266,16 +242,16 @@ module _ (seen : Seen) (clearing journal : List ℕ) (issuer : Setup) (set_up : 
           which = serves.which;
           failed = Rose-from_none input.faults rose;
           last = refl;
-        })))))))
+        })))
         serves.written counts.never_falls ends
     ends_clearing (LongStopped number) ending held faults fresh serves counts none failed ends =
-        ends_by_stop seen held faults (TooLong number) ending serves.text
-        (inr (inl (record {
+        ends_by_stop (ways_to_clear config clearing journal seen) seen held faults (TooLong number) ending serves.text
+        (inr (record {
           verdicts = serves.text;
           lines =
               lines-checked verdicts_text (λ file read asked. AreLinesBefore number read asked)
               (Appends seen.sink.held_before held) serves;
           which = serves.which;
           last = refl;
-        })))
+        }))
         serves.written counts.never_falls ends

@@ -29,15 +29,14 @@ use Rattle.journal_reader.specs.Exporting.{write_failed}
 use Rattle.line_serving.specs.Loaded.{AreLoadedFrom}
 use Rattle.desk_host.specs.SeenStores.{Logged, SeenJournals, journals_seen, store_seen}
 use Rattle.desk_host.proofs.SeenSteps.{at-place}
-use Rattle.command_line.specs.Command.{IsExport}
 use Rattle.issuer_top.specs.declared.ending.Ending.{Ending}
 use Rattle.issuer_top.specs.Seen.{Seen}
 use Rattle.issuer_top.specs.Opened.{OpenedConfigOnly}
-use Rattle.issuer_top.specs.PinChanges.{SaysIssuer}
+use Rattle.issuer_top.specs.Opening.{SaysIssuer}
 use Rattle.issuer_top.specs.ReadAgain.{StayLoaded, FailOnlyAt, StopsReading, failed_at, none_fails}
-use Rattle.issuer_top.specs.Exporting.{IsExporting, LoadsToExport, IsFeed, IsFeedUpTo, IsLineAfter, AreFirst}
+use Rattle.issuer_top.specs.Exporting.{LoadsToExport, IsFeed, IsFeedUpTo, IsLineAfter, AreFirst, ways_to_export}
 use Rattle.issuer_top.specs.Stopping.{EndsExporting}
-use Rattle.issuer_top.specs.Endings.{HasIssuer, EndsBy}
+use Rattle.issuer_top.specs.Ways.{EndsBy}
 use Rattle.issuer_top.proofs.EndingSteps.{ends_by_stop, ends_at_once, StopsAtOnce}
 use Rattle.issuer_top.proofs.ReadingSteps.{IsAt, are-read, fail-read, fail-same, holds-text, reads-as, reads-whole, recorded-at}
 use Rattle.issuer_top.proofs.ReadingSteps.{stops-reading, stores-count}
@@ -206,81 +205,52 @@ module _ {S : Type 0} (G : Ghosts S) (issuer : Setup) (prefix : List ℕ) (logs 
 
 -- ---- the ways that an export ends
 
--- the words and the configuration are as they should be
-pub is-exporting : (seen : Seen) (config journal : List ℕ) (issuer : Setup)
-    → IsExport seen.words config journal → SaysIssuer seen config issuer → IsExporting seen journal issuer
-is-exporting seen config journal issuer command said = record { config = config; command = command; said = said }
-
--- so they are of an issuer that stays the same
-pub exporting-same : (seen : Seen) (journal : List ℕ) (issuer other : Setup) → other ≡ issuer
-    → IsExporting seen journal issuer → IsExporting seen journal other
-exporting-same seen journal issuer other same set_up =
-    subst (λ (i : Setup). IsExporting seen journal i) (sym same) set_up
-
--- they are those of a command over journals
-pub export-issuer : (seen : Seen) (journal : List ℕ) (issuer : Setup) → IsExporting seen journal issuer
-    → HasIssuer seen journal issuer
-export-issuer seen journal issuer set_up = record {
-  config = set_up.config;
-  command = inr (inr (inl set_up.command));
-  said = set_up.said;
-}
-
-module _ (seen : Seen) (journal : List ℕ) (issuer : Setup) (set_up : IsExporting seen journal issuer)
+module _ (config journal : List ℕ) (seen : Seen) (issuer : Setup) (said : SaysIssuer seen config issuer)
     (stay : StayLoaded issuer journal seen.desk.logs seen.journals) (opened : OpenedConfigOnly seen) where
-  loads : LoadsToExport seen
-  loads = record { journal = journal; issuer = issuer; set_up = set_up; stay = stay; opened = opened }
+  loads : LoadsToExport config journal seen
+  loads = record { issuer = issuer; said = said; stay = stay; opened = opened }
 
   -- no memory was left to export with
   pub ends_unexported : FailOnlyAt seen.journals.stores none_fails → (ending : Ending)
-      → StopsAtOnce seen NoMemory ending → EndsBy seen ending
+      → StopsAtOnce seen NoMemory ending → EndsBy (ways_to_export config journal seen) seen ending
   unfolding loads
   ends_unexported counted ending stopping =
-      ends_at_once seen NoMemory ending
-      (inr (inr (inr (inr (inr (inl (record { loaded = loads; stood = counted; told = refl }))))))) stopping
+      ends_at_once (ways_to_export config journal seen) seen NoMemory ending
+      (inr (record { loaded = loads; stood = counted; last = refl })) stopping
 
   -- how the run ends, by how the export did
   pub ends_exporting : (exported : Result (Unit {0}) ExportFault) (ending : Ending) (held : Option (List ℕ)) (faults : ℕ)
       → FeedsBy seen.journals stay.first seen.sink.held_before held exported
       → CountsFaults seen.sink.faults_before faults (write_failed exported)
-      → EndsExporting held seen.sink.held_after faults seen.sink.faults_after exported ending → EndsBy seen ending
+      → EndsExporting held seen.sink.held_after faults seen.sink.faults_after exported ending → EndsBy (ways_to_export config journal seen) seen ending
   unfolding loads
   ends_exporting (Ok done) ending held faults feeds counts ends =
-      subst (EndsBy seen) (sym ends.ending_is) (
+      subst (EndsBy (ways_to_export config journal seen) seen) (sym ends.ending_is) (
         feeds.0,
-        inr (inr (inr (inr (inr (inr (inl (record { loaded = loads; stood = feeds.3; feed = feeds.1 }))))))),
+        record { loaded = loads; stood = feeds.3; feed = feeds.1 },
         subst (λ (h : Option (List ℕ)). Appends seen.sink.held_before h feeds.0) (sym ends.same) feeds.2,
       )
   ends_exporting (Err SinkFault) ending held faults feeds counts ends =
-      subst (EndsBy seen) (sym ends.ending_is)
+      subst (EndsBy (ways_to_export config journal seen) seen) (sym ends.ending_is)
       (⊎_elim
       (λ whole. record {
         rose = subst (Rose seen.sink.faults_before) (sym ends.stood) counts.counted;
         text = whole.0;
-        due = inr (inr (inr (inr (inr (inr (inr (inr (inr (inl (record {
-          loaded = loads;
-          stood = whole.3;
-          feed = whole.1;
-        }))))))))));
+        due = inr (inr (record { loaded = loads; stood = whole.3; feed = whole.1 }));
         front =
             subst (λ (h : Option (List ℕ)). AppendsFront seen.sink.held_before h whole.0) (sym ends.same) whole.2;
       })
       (λ begun. record {
         rose = subst (Rose seen.sink.faults_before) (sym ends.stood) counts.counted;
         text = begun.1;
-        due = inr (inr (inr (inr (inr (inr (inr (inr (inl (record {
-          loaded = loads;
-          shard = begun.0;
-          counted = begun.4;
-          feed = begun.2;
-        })))))))));
+        due = inr (inl (record { loaded = loads; shard = begun.0; counted = begun.4; feed = begun.2 }));
         front =
             subst (λ (h : Option (List ℕ)). AppendsFront seen.sink.held_before h begun.1) (sym ends.same) begun.3;
       })
       feeds)
   ends_exporting (Err (Unread ReadingFails shard)) ending held faults feeds counts ends =
-      ends_by_stop seen held faults (StoreFault shard) ending feeds.0
-      (inr (inr (inl (record {
+      ends_by_stop (ways_to_export config journal seen) seen held faults (StoreFault shard) ending feeds.0
+      (inr (record {
         loaded = loads;
         shard = shard;
         fault = ReadingFails;
@@ -291,11 +261,11 @@ module _ (seen : Seen) (journal : List ℕ) (issuer : Setup) (set_up : IsExporti
         cause = feeds.3;
         stop_is = refl;
         last = refl;
-      }))))
+      }))
       feeds.2 counts.never_falls ends
   ends_exporting (Err (Unread (ReadsBad line) shard)) ending held faults feeds counts ends =
-      ends_by_stop seen held faults (BadJournal shard line) ending feeds.0
-      (inr (inr (record {
+      ends_by_stop (ways_to_export config journal seen) seen held faults (BadJournal shard line) ending feeds.0
+      (inr (record {
         loaded = loads;
         shard = shard;
         fault = ReadsBad line;
@@ -306,5 +276,5 @@ module _ (seen : Seen) (journal : List ℕ) (issuer : Setup) (set_up : IsExporti
         cause = feeds.3;
         stop_is = refl;
         last = refl;
-      })))
+      }))
       feeds.2 counts.never_falls ends

@@ -1,12 +1,15 @@
 -- All goes well where all is in order.
-use Rattle.std.proofs.Common.{◌≡◌, ℕ, ◌-◌, ◌<◌, ◌≤◌, ◌⊎◌, List, [], ◌∷◌, ◌++◌, length, Option, None, Some, Ok, Err, inl}
+use Rattle.std.proofs.Common.{◌≡◌, ℕ, ◌-◌, ◌<◌, ◌≤◌, ◌⊎◌, List, [], ◌∷◌, ◌++◌, length, Option, Some, Ok, Err, inl}
 use Rattle.std.proofs.Common.{inr, ⊎_elim}
 use Rattle.std.proofs.Common.{refl, sym, subst, ap, ◌∙◌, arith}
+use Rattle.std.proofs.Common.{Bool, eq-eqb}
 use Rattle.std.proofs.lemmas.List.{length-append, take-append-le}
+use Rattle.std.proofs.lemmas.Option.{slice_get_within}
 use Rattle.std.specs.List.{flat_map}
-use Rattle.std.specs.Option.{option_map}
-use Rattle.std.specs.Prelude.{IsSomeAnd, codes}
+use Rattle.std.specs.Prelude.{IsSomeAnd, MatchBool}
+use Rattle.issuer_base.specs.OutsideFaults.{Rose}
 use Rattle.issuer_base.specs.Tells.{Tells}
+use Rattle.issuer_base.specs.declared.entry.Entry.{Entry}
 use Rattle.line_reader.specs.declared.limits.TheConstants.{MAX_BYTES}
 use Rattle.line_reader.specs.Lines.{lines, ended, IsUnbroken}
 use Rattle.line_reader.specs.Reading.{IsWithinLimits, PassesLimit}
@@ -15,95 +18,53 @@ use Rattle.line_reader.proofs.WholeLines.{PassesLimit-over}
 use Rattle.issuer_setup.specs.IssuerSetup.{Setup}
 use Rattle.config_read.specs.declared.fault.ConfigFault.{ConfigFault}
 use Rattle.config_read.specs.Configuration.{configured}
+use Rattle.answer_text.specs.StopText.{status_of_stop}
 use Rattle.answer_text.specs.declared.stop_line.Stop.{Stop}
-use Rattle.answer_text.specs.declared.stop_line.Stop.TheVariants.{Usage, Config, ReadFault, StoreFault, BadJournal}
-use Rattle.answer_text.specs.declared.stop_line.Stop.TheVariants.{BadOldJournal, NoMemory, TooLong, BadDol, BadData}
+use Rattle.answer_text.specs.declared.stop_line.Stop.TheVariants.{Config, ReadFault, StoreFault, BadJournal}
+use Rattle.answer_text.specs.declared.stop_line.Stop.TheVariants.{BadOldJournal, NoMemory, TooLong}
 use Rattle.answer_text.specs.declared.stop_line.Stop.TheVariants.{BadFeed, NoKey}
 use Rattle.shard_book.specs.declared.replay.LoadFault.{LoadFault}
 use Rattle.shard_book.specs.Loading.{IsOutside}
 use Rattle.shard_book.proofs.Exactly.{stops-outside}
-use Rattle.issuer_top.specs.declared.ending.Ending.{Ending}
-use Rattle.issuer_top.specs.declared.ending.Ending.TheVariants.{Done, Stopped, WriteFault}
-use Rattle.command_line.specs.Command.{RequestFile, IsCommand}
-use Rattle.command_line.specs.Pairs.{value_in}
-use Rattle.issuer_top.specs.Seen.{Told, Seen, SeenInput}
+use Rattle.host_loading.specs.Books.{histories_of}
+use Rattle.command_line.specs.Command.{RequestFile, PinOrder}
 use Rattle.line_blocks.specs.Answered.{AreLinesBefore, WasRead}
+use Rattle.journal_reader.specs.Filing.{fault_of}
 use Rattle.journal_reader.specs.declared.filing.FilingFault.{FilingFault}
 use Rattle.journal_reader.specs.declared.filing.FilingFault.TheVariants.{StoreFault as StoreFails, BadLine as FileLine}
 use Rattle.journal_reader.specs.declared.filing.FilingFault.TheVariants.{NoMemory as NoRoom}
+use Rattle.standby_node.specs.Streams.{StopsBadly}
+use Rattle.line_serving.specs.declared.follower.Followed.{Followed}
+use Rattle.line_serving.specs.declared.follower.Followed.TheVariants.{BadFeed as BadLine, StoreFault as FailsAt}
 use Rattle.desk_host.specs.Journals.{old_name, journal_name}
 use Rattle.desk_host.specs.Loading.{DeskFaults, IsBadAt, IsBadLine, IsBadOldLine}
-use Rattle.issuer_top.specs.Status.{status_of}
-use Rattle.issuer_top.specs.Endings.{EndsBy, IsReadFault, HasNoHost, IsInOrder, ServesInOrder, ShowsInOrder}
-use Rattle.issuer_top.specs.Endings.{PlaysInOrder, ChangesInOrder, ClearsInOrder, Completes, ReadsConfig, HasNoKey}
-use Rattle.issuer_top.specs.Endings.{IsOverJournals}
-use Rattle.issuer_top.specs.Endings.{AreObservable, ExportsInOrder}
-use Rattle.issuer_top.specs.Clearing.{CannotReadAgain, LoadsToClear}
-use Rattle.issuer_top.specs.Exporting.{CannotReadOn, LoadsToExport}
-use Rattle.journal_reader.specs.Filing.{fault_of}
-use Rattle.issuer_top.specs.ReadAgain.{StopsReading, stop_of_reading}
-use Rattle.command_line.proofs.ClearNames.{clear-no_command, clear-no_pin, clear-no_world, one-clear}
-use Rattle.command_line.proofs.CommandWords.{serve-gives, show-gives, serve-no_show, command-no_world}
-use Rattle.command_line.proofs.CommandWords.{fill-no_world}
-use Rattle.std.proofs.Common.{Bool, eq-eqb}
-use Rattle.std.proofs.lemmas.Option.{slice_get_within}
-use Rattle.std.specs.Prelude.{MatchBool}
 use Rattle.desk_host.proofs.SeenSteps.{at-place}
-use Rattle.line_serving.specs.declared.follower.Followed.{Followed}
-use Rattle.line_serving.specs.declared.follower.Followed.TheVariants.{TooLong as LongFeed, BadFeed as BadLine}
-use Rattle.issuer_top.specs.Standing.{CannotTake, LoadsToStandBy, StandsBy, WereJournals}
-use Rattle.issuer_base.specs.declared.entry.Entry.{Entry}
-use Rattle.host_loading.specs.Books.{histories_of}
-use Rattle.standby_node.specs.Streams.{StopsBadly}
-use Rattle.issuer_top.specs.Endings.{StandsInOrder}
-use Rattle.command_line.proofs.FeedNames.{one-standby}
-use Rattle.command_line.proofs.FeedNames.{standby-no_clear, standby-no_command, standby-no_export, standby-no_pin}
-use Rattle.command_line.proofs.FeedNames.{standby-no_world}
-use Rattle.command_line.proofs.FeedNames.{export-no_clear, export-no_command, export-no_pin, export-no_world}
-use Rattle.command_line.proofs.PinOrders.{one-order, pin-no_command, pin-no_world, pin-no_fill}
-use Rattle.command_line.specs.Command.{PinOrder}
-use Rattle.issuer_top.specs.PinChanges.{changing}
-use Rattle.issuer_top.proofs.OverJournals.{over-known, over-no_fill, over-no_pin, over-no_world, same-over}
+use Rattle.issuer_top.specs.declared.ending.Ending.{Ending}
+use Rattle.issuer_top.specs.declared.ending.Ending.TheVariants.{Done, Stopped, WriteFault}
+use Rattle.issuer_top.specs.Clearing.{ClearsInOrder, StopsToClear, ways_to_clear}
+use Rattle.issuer_top.specs.Exporting.{ExportsInOrder, StopsToExport, ways_to_export}
+use Rattle.issuer_top.specs.InOrder.{AreObservable, IsInOrder}
+use Rattle.issuer_top.specs.PinChanges.{ChangesInOrder, StopsToChange, changing, ways_to_change}
+use Rattle.issuer_top.specs.Played.{PlaysInOrder, StopsToPlay, ways_to_play}
+use Rattle.issuer_top.specs.ReadAgain.{StopsReading, stop_of_reading}
+use Rattle.issuer_top.specs.Seen.{Told, Seen, SeenInput}
+use Rattle.issuer_top.specs.Serving.{ServesInOrder, StopsToServe, ways_to_serve}
+use Rattle.issuer_top.specs.Showing.{ways_to_show}
+use Rattle.issuer_top.specs.Standing.{StandsBy, StandsInOrder, StopsToStandBy, WereJournals, ways_to_stand_by}
+use Rattle.issuer_top.specs.Status.{status_of}
+use Rattle.issuer_top.specs.Stops.{HasNoHost, StopsAtConfig, StopsBefore}
+use Rattle.issuer_top.specs.Ways.{Ways, Ends, EndsBy}
 
 -- ---- what is said once
 
--- words are a command in one way: with the same names
-record AreSame (config other_config : List ℕ) (requests other_requests : Option RequestFile)
-    (journal other_journal : List ℕ) : Type 0 where
-  config_is : config ≡ other_config
-  file_is : option_map (λ (file : RequestFile). file.name) requests
-      ≡ option_map (λ (file : RequestFile). file.name) other_requests
-  journal_is : journal ≡ other_journal
-
-one-value : (value : Option (List ℕ)) (x y : List ℕ) → value ≡ Some x → value ≡ Some y → x ≡ y
-one-value value x y one two = let e : Some x ≡ Some y = sym one ∙ two in cc
-
-same-names : (words : List (List ℕ)) (config other_config : List ℕ) (requests other_requests : Option RequestFile)
-    (journal other_journal : List ℕ)
-    → IsCommand words config requests journal → IsCommand words other_config other_requests other_journal
-    → AreSame config other_config requests other_requests journal other_journal
-same-names words config other_config None None journal other_journal first second =
-    let one = show-gives words config journal first in
-    let two = show-gives words other_config other_journal second in
-    record {
-      config_is = one-value (value_in words (codes "--config")) config other_config one.config_is two.config_is;
-      file_is = refl;
-      journal_is = one-value (value_in words (codes "--journal")) journal other_journal one.journal_is two.journal_is;
-    }
-same-names words config other_config None (Some file) journal other_journal first second =
-    absurd (serve-no_show words other_config file other_journal config journal second first)
-same-names words config other_config (Some file) None journal other_journal first second =
-    absurd (serve-no_show words config file journal other_config other_journal first second)
-same-names words config other_config (Some file) (Some other) journal other_journal first second =
-    let one = serve-gives words config file journal first in
-    let two = serve-gives words other_config other other_journal second in
-    record {
-      config_is = one-value (value_in words (codes "--config")) config other_config one.config_is two.config_is;
-      file_is =
-          ap Some (one-value (value_in words (codes "--requests")) file.name other.name one.requests_is
-          two.requests_is);
-      journal_is = one-value (value_in words (codes "--journal")) journal other_journal one.journal_is two.journal_is;
-    }
+-- a run that ends well, or stops without memory, and for no other cause
+in-order : (ways : Ways) (seen : Seen) → (Rose seen.sink.faults_before seen.sink.faults_after → ⊥)
+    → ((stop : Stop) (text : List ℕ) → ways.Stops stop text → status_of_stop stop ≡ 7)
+    → (status : ℕ) (ending : Ending) → status ≡ status_of ending → EndsBy ways seen ending
+    → (status ≡ 0) ⊎ (status ≡ 7)
+in-order ways seen stood only status Done is ends = inl is
+in-order ways seen stood only status (Stopped stop) is ends = inr (is ∙ only stop ends.0 ends.1)
+in-order ways seen stood only status WriteFault is ends = absurd (stood ends.rose)
 
 -- what stands under a name that the desk tells of is what it tells
 same-content : (desk : Told) (name other content told : List ℕ) → other ≡ name → desk name ≡ Some (Some told)
@@ -176,24 +137,22 @@ counted : (input : Option SeenInput) (seen : SeenInput) → input ≡ Some seen 
     → IsSomeAnd input (λ i. 0 < i.faults)
 counted input seen is failed = subst (λ o. IsSomeAnd o (λ (i : SeenInput). 0 < i.faults)) (sym is) failed
 
-module _ (seen : Seen) (config journal : List ℕ) (command : IsOverJournals seen.words config journal)
-    (order : IsInOrder seen config journal)
-    (told : LoadsToClear seen ⊎ LoadsToExport seen → AreObservable seen.journals.stores) where
-  -- nothing could not be read
-  not-unread : (text : List ℕ) → IsReadFault seen text → ⊥
-  not-unread text cannot =
-      ⊎_elim (λ a. order.desk_stood a.fails.rose)
-      (λ more. ⊎_elim (λ b. order.config_stood b.failed)
-      (λ more. ⊎_elim (λ c. order.desk_stood c.fails.rose)
-      (λ more. ⊎_elim (λ d. order.requests_stood (counted seen.requests d.lines.input d.lines.input_is d.failed))
-      (λ more. ⊎_elim (λ e. order.desk_stood e.fails.rose)
-      (λ more. ⊎_elim (λ f. order.requests_stood (counted seen.requests f.lines.input f.lines.input_is f.failed))
-      (λ more. ⊎_elim (λ g. order.desk_stood g.fails.rose)
-      (λ h. order.requests_stood (counted seen.requests h.stands.input h.stands.input_is h.failed)) more) more) more)
-      more) more)
-      more)
-      cannot
+-- the configuration gives an issuer, or no memory was left for it
+module _ (config : List ℕ) (seen : Seen) (content : List ℕ) (issuer : Setup)
+    (config_held : seen.desk.tells config ≡ Some (Some content)) (says : configured content ≡ Ok issuer)
+    (desk_stood : Rose seen.desk.faults_before seen.desk.faults_after → ⊥)
+    (config_stood : IsSomeAnd seen.config (λ input. 0 < input.faults) → ⊥) where
+  only-config : (stop : Stop) (text : List ℕ) → StopsAtConfig config seen stop text → status_of_stop stop ≡ 7
+  only-config (Config part index) text stops =
+      let said = stops.broken in
+      let same = same-content seen.desk.tells config config said.content content refl config_held said.held in
+      absurd (not-both said.content content issuer stops.fault same says said.says)
+  only-config ReadFault text stops =
+      ⊎_elim (λ opens. absurd (desk_stood opens.fails.rose)) (λ reads. absurd (config_stood reads.failed)) stops
+  only-config NoMemory text stops = refl
+  only-config stop text stops = absurd stops
 
+module _ (config journal : List ℕ) (seen : Seen) (order : IsInOrder config journal seen) where
   -- no journal is bad, and no old one
   not-bad_line : (fault : LoadFault) (line : ℕ) → IsBadLine line fault → IsOutside fault → ⊥
   not-bad_line fault line is outside =
@@ -203,29 +162,28 @@ module _ (seen : Seen) (config journal : List ℕ) (command : IsOverJournals see
   not-bad_old_line fault line is outside =
       ⊎_elim (λ bad. subst IsOutside bad outside) (λ bad. subst IsOutside bad outside) is
 
-  -- the issuer of a run that came to its journals is that of the configuration, and so are their names
+  -- the issuer of a run that came to its journals is that of the configuration
+  its-issuer : (issuer : Setup) (content : List ℕ) → Tells (seen.desk.tells config) (Some content)
+      → configured content ≡ Ok issuer → issuer ≡ order.issuer
+  its-issuer issuer content held says =
+      one-issuer content order.content order.issuer issuer
+      (same-content seen.desk.tells config config content order.content refl order.config_held held) order.says says
+
   not-bad_journal : (stop : Stop) (shard : ℕ) (IsSuch : LoadFault → Type 0) (text : List ℕ)
-      → (none : HasNoHost stop seen text)
-      → IsBadAt none.issuer none.journal seen.desk.logs (desk_faults seen) seen.journals shard IsSuch
+      → (none : HasNoHost config journal seen stop text)
+      → IsBadAt none.issuer journal seen.desk.logs (desk_faults seen) seen.journals shard IsSuch
       → ((fault : LoadFault) → IsSuch fault → IsOutside fault → ⊥) → ⊥
   not-bad_journal stop shard IsSuch text none cause apart =
-      let same = same-over seen.words config none.set_up.config journal none.journal command none.set_up.command in
-      let said = none.set_up.said in
-      let content =
-      same-content seen.desk.tells config none.set_up.config said.content order.content (sym same.config_is)
-      order.config_held said.held in
-      let issuer = one-issuer said.content order.content order.issuer none.issuer content order.says said.says in
+      let issuer = its-issuer none.issuer none.said.content none.said.held none.said.says in
       let logs = seen.desk.logs in
-      let bad = subst (λ (i : Setup). IsBadAt i none.journal logs (desk_faults seen) seen.journals shard IsSuch) issuer
+      let named = subst (λ (i : Setup). IsBadAt i journal logs (desk_faults seen) seen.journals shard IsSuch) issuer
       cause in
-      let named = subst (λ (j : List ℕ). IsBadAt order.issuer j logs (desk_faults seen) seen.journals shard IsSuch)
-      (sym same.journal_is) bad in
       let held = order.journals_held shard named.within in
       apart named.fault named.fault_is
       (stops-outside order.issuer shard held.old held.history (logs (old_name journal shard))
       (logs (journal_name journal shard)) named.fault held.old_is held.journal_is named.stops)
 
-  not-unstored : (shard : ℕ) (text : List ℕ) → HasNoHost (StoreFault shard) seen text → ⊥
+  not-unstored : (shard : ℕ) (text : List ℕ) → HasNoHost config journal seen (StoreFault shard) text → ⊥
   not-unstored shard text none =
       ⊎_elim (λ log. order.desk_stood log.fails.rose)
       (λ more. ⊎_elim (λ log. order.desk_stood log.fails.rose)
@@ -233,211 +191,115 @@ module _ (seen : Seen) (config journal : List ℕ) (command : IsOverJournals see
       load.failed) more)
       none.cause
 
-  -- and none fails when it is read again
-  not-again : (loaded : LoadsToClear seen ⊎ LoadsToExport seen) (fault : FilingFault) (shard : ℕ) (stop : Stop)
-      → StopsReading seen.journals.stores shard fault → stop ≡ stop_of_reading fault shard → (stop ≡ NoMemory → ⊥) → ⊥
-  not-again loaded StoreFails shard stop cause is other = order.stores_stood shard cause.0 cause.1 cause.2
-  not-again loaded (FileLine line) shard stop cause is other = told loaded shard cause.0 cause.1 cause.2
-  not-again loaded NoRoom shard stop cause is other = other is
-
-  -- no store failed at a record of a feed
-  not-failed : (shard : ℕ) (text : List ℕ) → CannotTake shard seen text → ⊥
-  not-failed shard text cannot =
-      let s = cannot.stands in
-      let count = s.kept.stores_are in
-      let olds = s.kept.olds_are in
-      let firsts = s.kept.first_are in
-      let histories = s.kept.histories_are in
-      let within = slice_get_within s.histories shard s.takes.history s.takes.next.is_for.history_is in
-      let store = at-place seen.journals.stores shard (omega (arith, within, count, histories)) in
-      let old = at-place seen.journals.olds shard (omega (arith, within, olds, histories)) in
-      let first = at-place s.first shard (omega (arith, within, firsts, histories)) in
-      let keeps = s.kept.each shard first.0 s.takes.history old.0 store.0 first.1 s.takes.next.is_for.history_is old.1
-      store.1 in
-      order.stores_stood shard store.0 store.1
-      (subst (λ (b : Bool). MatchBool b (0 < store.0.faults) ((keeps.tail ≡ []) × (store.0.faults ≡ 0)))
-      (eq-eqb shard shard refl) keeps.doubted)
-
-  not-read : (stop : Stop) (text : List ℕ) → (stop ≡ NoMemory → ⊥)
-      → CannotReadAgain stop seen text ⊎ CannotReadOn stop seen text → ⊥
-  not-read stop text other cannot =
-      ⊎_elim (λ again. not-again (inl again.loaded) again.fault again.shard stop again.cause again.stop_is other)
-      (λ on. not-again (inr on.loaded) (fault_of on.fault) on.shard stop on.cause on.stop_is other) cannot
-
-  -- the configuration that was read is that of the words
-  same-config : (other : List ℕ) → ReadsConfig seen.words other → other ≡ config
-  same-config other reads =
-      ⊎_elim
-      (λ over. sym (same-over seen.words config other journal over.0 command over.1).config_is)
-      (λ pin. absurd (over-no_pin seen.words config journal command pin.0 pin.1))
-      reads
-
-  -- where the request file isn't too long, the status is 0 or 7
-  in-order : (status : ℕ) (ending : Ending) → status ≡ status_of ending → EndsBy seen ending
-      → ((line : ℕ) → ending ≡ Stopped (TooLong line) → ⊥)
-      → ((line : ℕ) → ending ≡ Stopped (BadFeed line) → ⊥) → (status ≡ 0) ⊎ (status ≡ 7)
-  in-order status Done is ends short good = inl is
-  in-order status (Stopped Usage) is ends short good =
-      absurd (over-known seen.words config journal command ends.1.no_command)
-  in-order status (Stopped (Config part index)) is ends short good =
-      let content = same-content seen.desk.tells config ends.1.config ends.1.content order.content
-      (same-config ends.1.config ends.1.command) order.config_held ends.1.held in
-      absurd (not-both ends.1.content order.content order.issuer ends.1.fault content order.says ends.1.broken)
-  in-order status (Stopped ReadFault) is ends short good = absurd (not-unread ends.0 ends.1)
-  in-order status (Stopped (StoreFault shard)) is ends short good =
-      ⊎_elim (λ none. absurd (not-unstored shard ends.0 none))
-      (λ more. ⊎_elim (λ again. absurd (not-read (StoreFault shard) ends.0 (λ e. absurd (cc)) (inl again)))
-      (λ more. ⊎_elim (λ on. absurd (not-read (StoreFault shard) ends.0 (λ e. absurd (cc)) (inr on)))
-      (λ take. absurd (not-failed shard ends.0 take)) more) more) ends.1
-  in-order status (Stopped (BadJournal shard line)) is ends short good =
-      ⊎_elim
-      (λ none. absurd (not-bad_journal (BadJournal shard line) shard (IsBadLine line) ends.0 none none.cause
-      (λ fault. not-bad_line fault line)))
-      (λ more. absurd (not-read (BadJournal shard line) ends.0 (λ e. absurd (cc)) more)) ends.1
-  in-order status (Stopped (BadOldJournal shard line)) is ends short good =
-      absurd (not-bad_journal (BadOldJournal shard line) shard (IsBadOldLine line) ends.0 ends.1 ends.1.cause
+  only-loading : (stop : Stop) (text : List ℕ) → HasNoHost config journal seen stop text → status_of_stop stop ≡ 7
+  only-loading (StoreFault shard) text none = absurd (not-unstored shard text none)
+  only-loading (BadJournal shard line) text none =
+      absurd (not-bad_journal (BadJournal shard line) shard (IsBadLine line) text none none.cause
+      (λ fault. not-bad_line fault line))
+  only-loading (BadOldJournal shard line) text none =
+      absurd (not-bad_journal (BadOldJournal shard line) shard (IsBadOldLine line) text none none.cause
       (λ fault. not-bad_old_line fault line))
-  in-order status (Stopped NoMemory) is ends short good = inr is
-  in-order status (Stopped (TooLong line)) is ends short good = absurd (short line refl)
-  in-order status (Stopped (BadDol at)) is ends short good =
-      let f = ends.1 in absurd (over-no_fill seen.words config journal command f.dol f.given f.fill)
-  in-order status (Stopped (BadData at)) is ends short good =
-      let f = ends.1 in absurd (over-no_fill seen.words config journal command f.dol f.given f.fill)
-  in-order status (Stopped (BadFeed line)) is ends short good = absurd (good line refl)
-  in-order status (Stopped NoKey) is ends short good =
-      let k = ends.1 in absurd (over-no_pin seen.words config journal command k.order k.ordered.pin)
-  in-order status WriteFault is ends short good = absurd (order.sink_stood ends.rose)
+  only-loading NoMemory text none = refl
+  only-loading stop text none = absurd none.cause
+
+  -- the journals are loaded, or no memory was left for them
+  only-before : (stop : Stop) (text : List ℕ) → StopsBefore config journal seen stop text → status_of_stop stop ≡ 7
+  only-before stop text stops =
+      ⊎_elim
+      (only-config config seen order.content order.issuer order.config_held order.says order.desk_stood
+      order.config_stood stop text)
+      (only-loading stop text) stops
+
+  -- and none fails when it is read again
+  not-again : AreObservable seen.journals.stores → (fault : FilingFault) (shard : ℕ) (stop : Stop)
+      → StopsReading seen.journals.stores shard fault → stop ≡ stop_of_reading fault shard → (stop ≡ NoMemory → ⊥) → ⊥
+  not-again told StoreFails shard stop cause is other = order.stores_stood shard cause.0 cause.1 cause.2
+  not-again told (FileLine line) shard stop cause is other = told shard cause.0 cause.1 cause.2
+  not-again told NoRoom shard stop cause is other = other is
 
 -- ---- the commands
 
--- words that serve or show don't check clearing lines, and don't export
-not-to-clear : (seen : Seen) (config : List ℕ) (requests : Option RequestFile) (journal : List ℕ)
-    → IsCommand seen.words config requests journal → LoadsToClear seen → ⊥
-not-to-clear seen config requests journal command loaded =
-    clear-no_command seen.words loaded.set_up.config loaded.clearing loaded.journal loaded.set_up.command config
-    requests journal command
+module _ (config : List ℕ) (requests : RequestFile) (journal : List ℕ) (seen : Seen)
+    (order : ServesInOrder config requests journal seen) where
+  only-served : (stop : Stop) (text : List ℕ) → StopsToServe config requests journal seen stop text
+      → status_of_stop stop ≡ 7
+  only-served ReadFault text stops =
+      ⊎_elim (λ opens. absurd (order.in_order.desk_stood opens.fails.rose))
+      (λ reads. absurd (order.in_order.requests_stood
+      (counted seen.requests reads.lines.input reads.lines.input_is reads.failed))) stops
+  only-served NoMemory text stops = refl
+  only-served (TooLong line) text stops =
+      let l = stops.lines in
+      let content = same-content seen.desk.tells requests.name requests.name l.file order.file refl order.requests_held
+      l.held in
+      absurd (not-past l.file order.file l.read l.asked line l.input.left content order.within l.was_read stops.which)
+  only-served stop text stops = absurd stops
 
-not-to-read : (seen : Seen) (config : List ℕ) (requests : Option RequestFile) (journal : List ℕ)
-    → IsCommand seen.words config requests journal → LoadsToClear seen ⊎ LoadsToExport seen → ⊥
-not-to-read seen config requests journal command loads =
-    ⊎_elim (not-to-clear seen config requests journal command)
-    (λ loaded. export-no_command seen.words loaded.set_up.config loaded.journal loaded.set_up.command config requests
-    journal command) loads
-
-not-to-stand : (seen : Seen) (config : List ℕ) (requests : Option RequestFile) (journal : List ℕ)
-    → IsCommand seen.words config requests journal → (followed : Followed) → StandsBy followed seen → ⊥
-not-to-stand seen config requests journal command followed stands =
-    standby-no_command seen.words stands.set_up.config stands.feed stands.journal stands.set_up.command config requests
-    journal command
-
-serves-in_order : (seen : Seen) (status : ℕ) (ending : Ending) → status ≡ status_of ending → EndsBy seen ending
-    → ServesInOrder seen
+pub serves-in_order : (config : List ℕ) (requests : RequestFile) (journal : List ℕ) (seen : Seen) (status : ℕ)
+    → Ends (ways_to_serve config requests journal seen) status seen → ServesInOrder config requests journal seen
     → (status ≡ 0) ⊎ (status ≡ 7)
-serves-in_order seen status ending is ends order =
-    in-order seen order.config order.journal (inl (Some order.requests, order.serve)) order.in_order
-    (λ loads. absurd (not-to-read seen order.config (Some order.requests) order.journal order.serve loads))
-    status ending is ends
-    (λ line long.
-    let passed = subst (EndsBy seen) long ends in
-    ⊎_elim (λ past.
-    let l = past.lines in
-    let same =
-    same-names seen.words order.config l.set_up.config (Some order.requests) (Some l.requests) order.journal l.journal
-    order.serve l.set_up.command in
-    let name : l.requests.name ≡ order.requests.name =
-    (let e : Some order.requests.name ≡ Some l.requests.name = same.file_is in cc) in
-    let content = same-content seen.desk.tells order.requests.name l.requests.name l.file order.file name
-    order.requests_held l.held in
-    not-past l.file order.file l.read l.asked line l.input.left content order.within l.was_read past.which)
-    (λ more. ⊎_elim
-    (λ past. not-to-clear seen order.config (Some order.requests) order.journal order.serve past.lines.loaded)
-    (λ past. not-to-stand seen order.config (Some order.requests) order.journal order.serve (LongFeed line) past.stands)
-    more)
-    passed.1)
-    (λ line bad.
-    let stopped = subst (EndsBy seen) bad ends in
-    not-to-stand seen order.config (Some order.requests) order.journal order.serve (BadLine line) stopped.1.stands)
+serves-in_order config requests journal seen status ends order =
+    in-order (ways_to_serve config requests journal seen) seen order.in_order.sink_stood
+    (λ stop text. ⊎_elim (only-before config journal seen order.in_order stop text)
+    (only-served config requests journal seen order stop text))
+    status ends.ending ends.status_is ends.ends_by
 
-shows-in_order : (seen : Seen) (status : ℕ) (ending : Ending) → status ≡ status_of ending → EndsBy seen ending
-    → ShowsInOrder seen
+pub shows-in_order : (config journal : List ℕ) (seen : Seen) (status : ℕ)
+    → Ends (ways_to_show config journal seen) status seen → IsInOrder config journal seen
     → (status ≡ 0) ⊎ (status ≡ 7)
-shows-in_order seen status ending is ends order =
-    in-order seen order.config order.journal (inl (None, order.show)) order.in_order
-    (λ loads. absurd (not-to-read seen order.config None order.journal order.show loads)) status ending is ends
-    (λ line long.
-    let passed = subst (EndsBy seen) long ends in
-    ⊎_elim (λ past.
-    let l = past.lines in
-    let same = same-names seen.words order.config l.set_up.config None (Some l.requests) order.journal l.journal
-    order.show l.set_up.command in
-    (let e : None ≡ Some l.requests.name = same.file_is in cc))
-    (λ more. ⊎_elim (λ past. not-to-clear seen order.config None order.journal order.show past.lines.loaded)
-    (λ past. not-to-stand seen order.config None order.journal order.show (LongFeed line) past.stands) more)
-    passed.1)
-    (λ line bad.
-    let stopped = subst (EndsBy seen) bad ends in
-    not-to-stand seen order.config None order.journal order.show (BadLine line) stopped.1.stands)
+shows-in_order config journal seen status ends order =
+    in-order (ways_to_show config journal seen) seen order.sink_stood (only-before config journal seen order)
+    status ends.ending ends.status_is ends.ends_by
 
-clears-in_order : (seen : Seen) (status : ℕ) (ending : Ending) → status ≡ status_of ending → EndsBy seen ending
-    → ClearsInOrder seen
-    → (status ≡ 0) ⊎ (status ≡ 7)
-clears-in_order seen status ending is ends order =
-    in-order seen order.config order.journal (inr (inl (order.clearing, order.clear))) order.in_order
-    (λ loads. order.stores_told) status ending is ends
-    (λ line long.
-    let passed = subst (EndsBy seen) long ends in
-    ⊎_elim (λ past.
-    let l = past.lines in
-    clear-no_command seen.words order.config order.clearing order.journal order.clear l.set_up.config
-    (Some l.requests) l.journal l.set_up.command)
-    (λ more. ⊎_elim
-    (λ past.
-    let l = past.lines in
-    let set_up = l.loaded.set_up in
-    let same = one-clear seen.words order.config order.clearing order.journal set_up.config l.loaded.clearing
-    l.loaded.journal order.clear set_up.command in
-    let content = same-content seen.desk.tells order.clearing l.loaded.clearing l.file order.file
-    (sym same.clearing_is) order.clearing_held l.held in
-    not-past l.file order.file l.read l.asked line l.input.left content order.within l.was_read past.which)
-    (λ past. not-cleared (LongFeed line) past.stands) more)
-    passed.1)
-    (λ line bad.
-    let stopped = subst (EndsBy seen) bad ends in
-    not-cleared (BadLine line) stopped.1.stands)
-  where
-    not-cleared : (followed : Followed) → StandsBy followed seen → ⊥
-    not-cleared followed s =
-        standby-no_clear seen.words s.set_up.config s.feed s.journal s.set_up.command order.config order.clearing
-        order.journal order.clear
+module _ (config clearing journal : List ℕ) (seen : Seen) (order : ClearsInOrder config clearing journal seen) where
+  only-cleared : (stop : Stop) (text : List ℕ) → StopsToClear config clearing journal seen stop text
+      → status_of_stop stop ≡ 7
+  only-cleared ReadFault text stops =
+      ⊎_elim (λ opens. absurd (order.in_order.desk_stood opens.fails.rose))
+      (λ reads. absurd (order.in_order.requests_stood
+      (counted seen.requests reads.lines.input reads.lines.input_is reads.failed))) stops
+  only-cleared (StoreFault shard) text stops =
+      absurd (not-again config journal seen order.in_order order.stores_told stops.fault stops.shard (StoreFault shard)
+      stops.cause stops.stop_is (λ e. absurd (cc)))
+  only-cleared (BadJournal shard line) text stops =
+      absurd (not-again config journal seen order.in_order order.stores_told stops.fault stops.shard
+      (BadJournal shard line) stops.cause stops.stop_is (λ e. absurd (cc)))
+  only-cleared NoMemory text stops = refl
+  only-cleared (TooLong line) text stops =
+      let l = stops.lines in
+      let content = same-content seen.desk.tells clearing clearing l.file order.file refl order.clearing_held l.held in
+      absurd (not-past l.file order.file l.read l.asked line l.input.left content order.within l.was_read stops.which)
+  only-cleared stop text stops = absurd stops
 
-exports-in_order : (seen : Seen) (status : ℕ) (ending : Ending) → status ≡ status_of ending → EndsBy seen ending
-    → ExportsInOrder seen
+pub clears-in_order : (config clearing journal : List ℕ) (seen : Seen) (status : ℕ)
+    → Ends (ways_to_clear config clearing journal seen) status seen → ClearsInOrder config clearing journal seen
     → (status ≡ 0) ⊎ (status ≡ 7)
-exports-in_order seen status ending is ends order =
-    let export = order.export in
-    in-order seen order.config order.journal (inr (inr (inl export))) order.in_order
-    (λ loads. order.stores_told) status ending is ends
-    (λ line long.
-    let passed = subst (EndsBy seen) long ends in
-    ⊎_elim (λ past.
-    let l = past.lines in
-    export-no_command seen.words order.config order.journal export l.set_up.config (Some l.requests) l.journal
-    l.set_up.command)
-    (λ more. ⊎_elim
-    (λ past.
-    let l = past.lines.loaded in
-    export-no_clear seen.words order.config order.journal export l.set_up.config l.clearing l.journal
-    l.set_up.command)
-    (λ past. not-exporting (LongFeed line) past.stands) more)
-    passed.1)
-    (λ line bad.
-    let stopped = subst (EndsBy seen) bad ends in
-    not-exporting (BadLine line) stopped.1.stands)
-  where
-    not-exporting : (followed : Followed) → StandsBy followed seen → ⊥
-    not-exporting followed s =
-        standby-no_export seen.words s.set_up.config s.feed s.journal s.set_up.command order.config order.journal
-        order.export
+clears-in_order config clearing journal seen status ends order =
+    in-order (ways_to_clear config clearing journal seen) seen order.in_order.sink_stood
+    (λ stop text. ⊎_elim (only-before config journal seen order.in_order stop text)
+    (only-cleared config clearing journal seen order stop text))
+    status ends.ending ends.status_is ends.ends_by
+
+module _ (config journal : List ℕ) (seen : Seen) (order : ExportsInOrder config journal seen) where
+  only-exported : (stop : Stop) (text : List ℕ) → StopsToExport config journal seen stop text
+      → status_of_stop stop ≡ 7
+  only-exported (StoreFault shard) text stops =
+      absurd (not-again config journal seen order.in_order order.stores_told (fault_of stops.fault) stops.shard
+      (StoreFault shard) stops.cause stops.stop_is (λ e. absurd (cc)))
+  only-exported (BadJournal shard line) text stops =
+      absurd (not-again config journal seen order.in_order order.stores_told (fault_of stops.fault) stops.shard
+      (BadJournal shard line) stops.cause stops.stop_is (λ e. absurd (cc)))
+  only-exported NoMemory text stops = refl
+  only-exported stop text stops = absurd stops
+
+pub exports-in_order : (config journal : List ℕ) (seen : Seen) (status : ℕ)
+    → Ends (ways_to_export config journal seen) status seen → ExportsInOrder config journal seen
+    → (status ≡ 0) ⊎ (status ≡ 7)
+exports-in_order config journal seen status ends order =
+    in-order (ways_to_export config journal seen) seen order.in_order.sink_stood
+    (λ stop text. ⊎_elim (only-before config journal seen order.in_order stop text)
+    (only-exported config journal seen order stop text))
+    status ends.ending ends.status_is ends.ends_by
 
 -- a stream with more behind it has the same first bad line
 stops-more : (issuer : Setup) (opening histories : List (List Entry)) (read rest : List ℕ) (number : ℕ)
@@ -457,9 +319,9 @@ stops-more issuer opening histories read rest number stops =
     }
 
 -- the journals were those of the first books
-were-journals : {followed : Followed} (seen : Seen) (s : StandsBy followed seen)
-    → WereJournals s.issuer s.journal seen.desk.logs s.first
-were-journals seen s = record {
+were-journals : {followed : Followed} (config feed journal : List ℕ) (seen : Seen)
+    (s : StandsBy followed config feed journal seen) → WereJournals s.issuer journal seen.desk.logs s.first
+were-journals config feed journal seen s = record {
   count_is = s.kept.first_are;
   each = λ shard was was_at.
       let within = slice_get_within s.first shard was was_at in
@@ -474,28 +336,17 @@ were-journals seen s = record {
       (keeps.old, keeps.was);
 }
 
-module _ (seen : Seen) (order : StandsInOrder seen) where
+module _ (config feed journal : List ℕ) (seen : Seen) (order : StandsInOrder config feed journal seen) where
   -- a feed that was taken is the one of the words
-  fed-file : {followed : Followed} (s : StandsBy followed seen) → s.file ≡ order.file
-  fed-file s =
-      let same = one-standby seen.words order.config order.feed order.journal s.set_up.config s.feed s.journal
-      order.standby s.set_up.command in
-      same-content seen.desk.tells order.feed s.feed s.file order.file (sym same.feed_is) order.feed_held s.held
+  fed-file : {followed : Followed} (s : StandsBy followed config feed journal seen) → s.file ≡ order.file
+  fed-file s = same-content seen.desk.tells feed feed s.file order.file refl order.feed_held s.held
 
   -- and has no bad line
-  fed-well : (number : ℕ) → StandsBy (BadLine number) seen → ⊥
+  fed-well : (number : ℕ) → StandsBy (BadLine number) config feed journal seen → ⊥
   fed-well number s =
-      let same = one-standby seen.words order.config order.feed order.journal s.set_up.config s.feed s.journal
-      order.standby s.set_up.command in
-      let said = s.set_up.said in
-      let content =
-      same-content seen.desk.tells order.config s.set_up.config said.content order.in_order.content
-      (sym same.config_is) order.in_order.config_held said.held in
-      let issuer = one-issuer said.content order.in_order.content order.in_order.issuer s.issuer content
-      order.in_order.says said.says in
-      let were = subst (λ (j : List ℕ). WereJournals order.in_order.issuer j seen.desk.logs s.first)
-      (sym same.journal_is)
-      (subst (λ (i : Setup). WereJournals i s.journal seen.desk.logs s.first) issuer (were-journals seen s)) in
+      let issuer = its-issuer config journal seen order.in_order s.issuer s.said.content s.said.held s.said.says in
+      let were = subst (λ (i : Setup). WereJournals i journal seen.desk.logs s.first) issuer
+      (were-journals config feed journal seen s) in
       let stops = subst (λ (i : Setup). StopsBadly i (histories_of s.first) s.read number s.histories) issuer
       s.takes.bad in
       let whole = stops-more order.in_order.issuer (histories_of s.first) s.histories s.read s.was_read.unread number
@@ -504,223 +355,78 @@ module _ (seen : Seen) (order : StandsInOrder seen) where
       (subst (λ (f : List ℕ). StopsBadly order.in_order.issuer (histories_of s.first) f number s.histories)
       (sym s.was_read.split ∙ fed-file s) whole)
 
-  not-reading : LoadsToClear seen ⊎ LoadsToExport seen → ⊥
-  not-reading loads =
-      ⊎_elim
-      (λ l. standby-no_clear seen.words order.config order.feed order.journal order.standby l.set_up.config l.clearing
-      l.journal l.set_up.command)
-      (λ l. standby-no_export seen.words order.config order.feed order.journal order.standby l.set_up.config l.journal
-      l.set_up.command) loads
+  -- no store failed at a record of the feed
+  not-failed : (shard : ℕ) → StandsBy (FailsAt shard) config feed journal seen → ⊥
+  not-failed shard s =
+      let count = s.kept.stores_are in
+      let olds = s.kept.olds_are in
+      let firsts = s.kept.first_are in
+      let histories = s.kept.histories_are in
+      let within = slice_get_within s.histories shard s.takes.history s.takes.next.is_for.history_is in
+      let store = at-place seen.journals.stores shard (omega (arith, within, count, histories)) in
+      let old = at-place seen.journals.olds shard (omega (arith, within, olds, histories)) in
+      let first = at-place s.first shard (omega (arith, within, firsts, histories)) in
+      let keeps = s.kept.each shard first.0 s.takes.history old.0 store.0 first.1 s.takes.next.is_for.history_is old.1
+      store.1 in
+      order.in_order.stores_stood shard store.0 store.1
+      (subst (λ (b : Bool). MatchBool b (0 < store.0.faults) ((keeps.tail ≡ []) × (store.0.faults ≡ 0)))
+      (eq-eqb shard shard refl) keeps.doubted)
 
-  stands-in_order : (status : ℕ) (ending : Ending) → status ≡ status_of ending → EndsBy seen ending
-      → (status ≡ 0) ⊎ (status ≡ 7)
-  stands-in_order status ending is ends =
-      in-order seen order.config order.journal (inr (inr (inr (order.feed, order.standby)))) order.in_order
-      (λ loads. absurd (not-reading loads)) status ending is ends
-      (λ line long.
-      let passed = subst (EndsBy seen) long ends in
-      ⊎_elim (λ past.
-      let l = past.lines in
-      standby-no_command seen.words order.config order.feed order.journal order.standby l.set_up.config
-      (Some l.requests) l.journal l.set_up.command)
-      (λ more. ⊎_elim (λ past. not-reading (inl past.lines.loaded))
-      (λ past.
-      let s = past.stands in
-      not-past s.file order.file s.read s.takes.before line s.input.left (fed-file s) order.within s.was_read
-      s.takes.are_before) more)
-      passed.1)
-      (λ line bad.
-      let stopped = subst (EndsBy seen) bad ends in
-      fed-well line stopped.1.stands)
+  only-followed : (stop : Stop) (text : List ℕ) → StopsToStandBy config feed journal seen stop text
+      → status_of_stop stop ≡ 7
+  only-followed ReadFault text stops =
+      ⊎_elim (λ opens. absurd (order.in_order.desk_stood opens.fails.rose))
+      (λ reads. absurd (order.in_order.requests_stood
+      (counted seen.requests reads.stands.input reads.stands.input_is reads.failed))) stops
+  only-followed (StoreFault shard) text stops = absurd (not-failed shard stops.stands)
+  only-followed NoMemory text stops = refl
+  only-followed (TooLong line) text stops =
+      let s = stops.stands in
+      absurd (not-past s.file order.file s.read s.takes.before line s.input.left (fed-file s) order.within s.was_read
+      s.takes.are_before)
+  only-followed (BadFeed line) text stops = absurd (fed-well line stops.stands)
+  only-followed stop text stops = absurd stops
 
-module _ (seen : Seen) (order : PlaysInOrder seen) where
-  -- the words are no command over journals
-  no_host : (config : List ℕ) (requests : Option RequestFile) (journal : List ℕ)
-      → IsCommand seen.words config requests journal → ⊥
-  no_host config requests journal command =
-      command-no_world seen.words config requests journal order.cards order.steps order.seed command order.world
+pub stands-in_order : (config feed journal : List ℕ) (seen : Seen) (status : ℕ)
+    → Ends (ways_to_stand_by config feed journal seen) status seen → StandsInOrder config feed journal seen
+    → (status ≡ 0) ⊎ (status ≡ 7)
+stands-in_order config feed journal seen status ends order =
+    in-order (ways_to_stand_by config feed journal seen) seen order.in_order.sink_stood
+    (λ stop text. ⊎_elim (only-before config journal seen order.in_order stop text)
+    (only-followed config feed journal seen order stop text))
+    status ends.ending ends.status_is ends.ends_by
 
-  no_config : (config : List ℕ) → ReadsConfig seen.words config → ⊥
-  no_config config command =
-      ⊎_elim (λ over. over-no_world seen.words config over.0 over.1 order.cards order.steps order.seed order.world)
-      (λ pin. pin-no_world seen.words pin.0 order.cards order.steps order.seed pin.1 order.world)
-      command
+-- ---- the commands over no journals
 
-  no_check : LoadsToClear seen → ⊥
-  no_check loaded =
-      clear-no_world seen.words loaded.set_up.config loaded.clearing loaded.journal loaded.set_up.command order.cards
-      order.steps order.seed order.world
+only-played : (seen : Seen) (stop : Stop) (text : List ℕ) → StopsToPlay seen stop text → status_of_stop stop ≡ 7
+only-played seen NoMemory text stops = refl
+only-played seen stop text stops = absurd stops
 
-  no_export : LoadsToExport seen → ⊥
-  no_export loaded =
-      export-no_world seen.words loaded.set_up.config loaded.journal loaded.set_up.command order.cards order.steps
-      order.seed order.world
+pub plays-in_order : (cards steps seed : ℕ) (seen : Seen) (status : ℕ)
+    → Ends (ways_to_play cards steps seed seen) status seen → PlaysInOrder seen → (status ≡ 0) ⊎ (status ≡ 7)
+plays-in_order cards steps seed seen status ends order =
+    in-order (ways_to_play cards steps seed seen) seen order (only-played seen)
+    status ends.ending ends.status_is ends.ends_by
 
-  no_stand : {followed : Followed} → StandsBy followed seen → ⊥
-  no_stand stands =
-      standby-no_world seen.words stands.set_up.config stands.feed stands.journal stands.set_up.command order.cards
-      order.steps order.seed order.world
-
-  no_standby : LoadsToStandBy seen → ⊥
-  no_standby loaded =
-      standby-no_world seen.words loaded.set_up.config loaded.feed loaded.journal loaded.set_up.command order.cards
-      order.steps order.seed order.world
-
-  none-unread : (text : List ℕ) → IsReadFault seen text → ⊥
-  none-unread text cannot =
-      ⊎_elim (λ a. no_config a.config a.command)
-      (λ more. ⊎_elim (λ b. no_config b.config b.command)
-      (λ more. ⊎_elim (λ c. let l = c.loaded in no_host l.set_up.config (Some l.requests) l.journal l.set_up.command)
-      (λ more. ⊎_elim (λ d. let l = d.lines in no_host l.set_up.config (Some l.requests) l.journal l.set_up.command)
-      (λ more. ⊎_elim (λ e. no_check e.loaded)
-      (λ more. ⊎_elim (λ f. no_check f.lines.loaded)
-      (λ more. ⊎_elim (λ g. no_standby g.loaded) (λ h. no_stand h.stands) more) more) more) more) more) more)
-      cannot
-
-  none-unloaded : (stop : Stop) (text : List ℕ) → HasNoHost stop seen text → ⊥
-  none-unloaded stop text none =
-      over-no_world seen.words none.set_up.config none.journal none.set_up.command order.cards order.steps order.seed
-      order.world
-
-  plays-in_order : (status : ℕ) (ending : Ending) → status ≡ status_of ending → EndsBy seen ending
-      → (status ≡ 0) ⊎ (status ≡ 7)
-  plays-in_order status Done is ends = inl is
-  plays-in_order status (Stopped Usage) is ends =
-      absurd (ends.1.no_command.no_world order.cards order.steps order.seed order.world)
-  plays-in_order status (Stopped (Config part index)) is ends =
-      let c = ends.1 in absurd (no_config c.config c.command)
-  plays-in_order status (Stopped ReadFault) is ends = absurd (none-unread ends.0 ends.1)
-  plays-in_order status (Stopped (StoreFault shard)) is ends =
-      ⊎_elim (λ none. absurd (none-unloaded (StoreFault shard) ends.0 none))
-      (λ more. ⊎_elim (λ again. absurd (no_check again.loaded))
-      (λ more. ⊎_elim (λ on. absurd (no_export on.loaded)) (λ take. absurd (no_stand take.stands)) more) more) ends.1
-  plays-in_order status (Stopped (BadJournal shard line)) is ends =
-      ⊎_elim (λ none. absurd (none-unloaded (BadJournal shard line) ends.0 none))
-      (λ more. ⊎_elim (λ again. absurd (no_check again.loaded)) (λ on. absurd (no_export on.loaded)) more) ends.1
-  plays-in_order status (Stopped (BadOldJournal shard line)) is ends =
-      absurd (none-unloaded (BadOldJournal shard line) ends.0 ends.1)
-  plays-in_order status (Stopped NoMemory) is ends = inr is
-  plays-in_order status (Stopped (TooLong line)) is ends =
-      ⊎_elim
-      (λ long. let l = long.lines in absurd (no_host l.set_up.config (Some l.requests) l.journal l.set_up.command))
-      (λ more. ⊎_elim (λ long. absurd (no_check long.lines.loaded)) (λ long. absurd (no_stand long.stands)) more) ends.1
-  plays-in_order status (Stopped (BadDol at)) is ends =
-      let f = ends.1 in
-      absurd (fill-no_world seen.words f.dol f.given order.cards order.steps order.seed f.fill order.world)
-  plays-in_order status (Stopped (BadData at)) is ends =
-      let f = ends.1 in
-      absurd (fill-no_world seen.words f.dol f.given order.cards order.steps order.seed f.fill order.world)
-  plays-in_order status (Stopped (BadFeed line)) is ends = absurd (no_stand ends.1.stands)
-  plays-in_order status (Stopped NoKey) is ends =
-      let k = ends.1 in
-      absurd (pin-no_world seen.words k.order order.cards order.steps order.seed k.ordered.pin order.world)
-  plays-in_order status WriteFault is ends = absurd (order.sink_stood ends.rose)
-
-module _ (seen : Seen) (order : ChangesInOrder seen) where
-  -- the words are no command over journals
-  not-over_journals : (config : List ℕ) (requests : Option RequestFile) (journal : List ℕ)
-      → IsCommand seen.words config requests journal → ⊥
-  not-over_journals config requests journal command =
-      pin-no_command seen.words order.order config requests journal order.pin command
-
-  not-checked : LoadsToClear seen → ⊥
-  not-checked loaded =
-      clear-no_pin seen.words loaded.set_up.config loaded.clearing loaded.journal loaded.set_up.command order.order
-      order.pin
-
-  not-exported : LoadsToExport seen → ⊥
-  not-exported loaded =
-      export-no_pin seen.words loaded.set_up.config loaded.journal loaded.set_up.command order.order order.pin
-
-  not-standing : {followed : Followed} → StandsBy followed seen → ⊥
-  not-standing stands =
-      standby-no_pin seen.words stands.set_up.config stands.feed stands.journal stands.set_up.command order.order
-      order.pin
-
-  not-stood : LoadsToStandBy seen → ⊥
-  not-stood loaded =
-      standby-no_pin seen.words loaded.set_up.config loaded.feed loaded.journal loaded.set_up.command order.order
-      order.pin
-
-  none-failed : (text : List ℕ) → IsReadFault seen text → ⊥
-  none-failed text cannot =
-      ⊎_elim (λ a. order.desk_stood a.fails.rose)
-      (λ more. ⊎_elim (λ b. order.config_stood b.failed)
-      (λ more. ⊎_elim
-      (λ c. let l = c.loaded in not-over_journals l.set_up.config (Some l.requests) l.journal l.set_up.command)
-      (λ more. ⊎_elim
-      (λ d. let l = d.lines in not-over_journals l.set_up.config (Some l.requests) l.journal l.set_up.command)
-      (λ more. ⊎_elim (λ e. not-checked e.loaded)
-      (λ more. ⊎_elim (λ f. not-checked f.lines.loaded)
-      (λ more. ⊎_elim (λ g. not-stood g.loaded) (λ h. not-standing h.stands) more) more) more) more) more)
-      more)
-      cannot
-
-  none-loaded : (stop : Stop) (text : List ℕ) → HasNoHost stop seen text → ⊥
-  none-loaded stop text none =
-      over-no_pin seen.words none.set_up.config none.journal none.set_up.command order.order order.pin
-
-  -- the configuration that was read is that of the order
-  ordered-config : (other : List ℕ) → ReadsConfig seen.words other → other ≡ order.order.config
-  ordered-config other reads =
-      ⊎_elim (λ over. absurd (over-no_pin seen.words other over.0 over.1 order.order order.pin))
-      (λ pin. sym pin.2 ∙ ap (λ (o : PinOrder). o.config) (one-order seen.words pin.0 order.order pin.1 order.pin))
-      reads
-
-  -- and so the card and the key were there
-  not-keyless : (text : List ℕ) → HasNoKey seen text → ⊥
-  not-keyless text none =
-      let same = one-order seen.words none.order order.order none.ordered.pin order.pin in
-      let content = same-content seen.desk.tells order.order.config none.order.config none.ordered.said.content
-      order.content
-      (ap (λ (o : PinOrder). o.config) same) order.config_held none.ordered.said.held in
-      let issuer = one-issuer none.ordered.said.content order.content order.issuer none.issuer content order.says
-      none.ordered.said.says in
+module _ (pin : PinOrder) (seen : Seen) (order : ChangesInOrder pin seen) where
+  -- the card and the key are there
+  only-changed : (stop : Stop) (text : List ℕ) → StopsToChange pin seen stop text → status_of_stop stop ≡ 7
+  only-changed NoKey text stops =
+      let said = stops.ordered.said in
+      let content = same-content seen.desk.tells pin.config pin.config said.content order.content refl order.config_held
+      said.held in
+      let issuer = one-issuer said.content order.content order.issuer stops.issuer content order.says said.says in
       let e : Err NoKey ≡ Ok order.line =
-      sym none.cause ∙ ap (λ (i : Setup). changing i none.order) issuer ∙ ap (changing order.issuer) same
-      ∙ order.has_key in
-      cc
+      sym stops.cause ∙ ap (λ (i : Setup). changing i pin) issuer ∙ order.has_key in
+      absurd (cc)
+  only-changed stop text stops = absurd stops
 
-  changes-in_order : (status : ℕ) (ending : Ending) → status ≡ status_of ending → EndsBy seen ending
-      → (status ≡ 0) ⊎ (status ≡ 7)
-  changes-in_order status Done is ends = inl is
-  changes-in_order status (Stopped Usage) is ends = absurd (ends.1.no_command.no_pin order.order order.pin)
-  changes-in_order status (Stopped (Config part index)) is ends =
-      let content = same-content seen.desk.tells order.order.config ends.1.config ends.1.content order.content
-      (ordered-config ends.1.config ends.1.command) order.config_held ends.1.held in
-      absurd (not-both ends.1.content order.content order.issuer ends.1.fault content order.says ends.1.broken)
-  changes-in_order status (Stopped ReadFault) is ends = absurd (none-failed ends.0 ends.1)
-  changes-in_order status (Stopped (StoreFault shard)) is ends =
-      ⊎_elim (λ none. absurd (none-loaded (StoreFault shard) ends.0 none))
-      (λ more. ⊎_elim (λ again. absurd (not-checked again.loaded))
-      (λ more. ⊎_elim (λ on. absurd (not-exported on.loaded)) (λ take. absurd (not-standing take.stands)) more) more) ends.1
-  changes-in_order status (Stopped (BadJournal shard line)) is ends =
-      ⊎_elim (λ none. absurd (none-loaded (BadJournal shard line) ends.0 none))
-      (λ more. ⊎_elim (λ again. absurd (not-checked again.loaded)) (λ on. absurd (not-exported on.loaded)) more) ends.1
-  changes-in_order status (Stopped (BadOldJournal shard line)) is ends =
-      absurd (none-loaded (BadOldJournal shard line) ends.0 ends.1)
-  changes-in_order status (Stopped NoMemory) is ends = inr is
-  changes-in_order status (Stopped (TooLong line)) is ends =
-      ⊎_elim
-      (λ long. let l = long.lines in
-      absurd (not-over_journals l.set_up.config (Some l.requests) l.journal l.set_up.command))
-      (λ more. ⊎_elim (λ long. absurd (not-checked long.lines.loaded)) (λ long. absurd (not-standing long.stands)) more) ends.1
-  changes-in_order status (Stopped (BadDol at)) is ends =
-      let f = ends.1 in absurd (pin-no_fill seen.words order.order f.dol f.given order.pin f.fill)
-  changes-in_order status (Stopped (BadData at)) is ends =
-      let f = ends.1 in absurd (pin-no_fill seen.words order.order f.dol f.given order.pin f.fill)
-  changes-in_order status (Stopped (BadFeed line)) is ends = absurd (not-standing ends.1.stands)
-  changes-in_order status (Stopped NoKey) is ends = absurd (not-keyless ends.0 ends.1)
-  changes-in_order status WriteFault is ends = absurd (order.sink_stood ends.rose)
-
-pub completes : (seen : Seen) (status : ℕ) (ending : Ending) → status ≡ status_of ending → EndsBy seen ending
-    → Completes status seen
-completes seen status ending is ends order =
-    ⊎_elim (serves-in_order seen status ending is ends)
-    (⊎_elim (shows-in_order seen status ending is ends)
-    (⊎_elim (λ plays. plays-in_order seen plays status ending is ends)
-    (⊎_elim (λ changes. changes-in_order seen changes status ending is ends)
-    (⊎_elim (clears-in_order seen status ending is ends)
-    (⊎_elim (exports-in_order seen status ending is ends)
-    (λ stands. stands-in_order seen stands status ending is ends))))))
-    order
+pub changes-in_order : (pin : PinOrder) (seen : Seen) (status : ℕ)
+    → Ends (ways_to_change pin seen) status seen → ChangesInOrder pin seen → (status ≡ 0) ⊎ (status ≡ 7)
+changes-in_order pin seen status ends order =
+    in-order (ways_to_change pin seen) seen order.sink_stood
+    (λ stop text. ⊎_elim
+    (only-config pin.config seen order.content order.issuer order.config_held order.says order.desk_stood
+    order.config_stood stop text)
+    (only-changed pin seen order stop text))
+    status ends.ending ends.status_is ends.ends_by

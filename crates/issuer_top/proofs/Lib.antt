@@ -1,8 +1,9 @@
 -- The lemmas of this crate.
 mod ServingEnds
+mod ShowingEnds
+mod PlayingEnds
+mod Commands
 pub mod EndingSteps
-pub mod Statuses
-pub mod OverJournals
 pub mod InOrder
 pub mod ReadingSteps
 pub mod ClearingSteps

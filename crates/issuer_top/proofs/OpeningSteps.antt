@@ -17,17 +17,15 @@ use Rattle.issuer_setup.specs.IssuerSetup.{Setup}
 use Rattle.config_read.specs.declared.fault.ConfigFault.{ConfigFault}
 use Rattle.config_read.specs.declared.fault.ConfigFault.TheVariants.{NotJson, At, NoMemory as NoTextRoom}
 use Rattle.config_read.specs.Faults.{number_of_part}
-use Rattle.command_line.specs.Command.{RequestFile, IsCommand}
 use Rattle.desk_host.specs.Configuration.{Says, GivesNoIssuer, is_read_stop, config_stop}
 use Rattle.desk_host.specs.SeenStores.{no_journals}
 use Rattle.issuer_top.specs.declared.ending.Ending.{Ending}
 use Rattle.issuer_top.specs.Seen.{Seen, SeenDesk, SeenInput}
 use Rattle.issuer_top.specs.Opening.{GivesInput, stop_of, IsConfigured, GivesNoInput, SaysNoIssuer, OpensNoIssuer}
 use Rattle.issuer_top.specs.Opened.{OpenedNoInput, OpenedConfigOnly}
-use Rattle.issuer_top.specs.PinChanges.{SaysIssuer}
-use Rattle.issuer_top.specs.Endings.{IsSetUp, IsConfig, IsNoMemory, ReadsConfig, Stops, EndsBy}
-use Rattle.issuer_top.proofs.EndingSteps.{told-given, ends_at_once, StopsAtOnce, lacks-none}
-use Rattle.issuer_top.proofs.PinSteps.{lacks-pin}
+use Rattle.issuer_top.specs.Stops.{CannotConfigure, IsConfig, StopsAtConfig, ways_to_give_no_issuer}
+use Rattle.issuer_top.specs.Ways.{EndsBy}
+use Rattle.issuer_top.proofs.EndingSteps.{told-given, ends_at_once, StopsAtOnce}
 
 -- ---- what was opened
 
@@ -76,71 +74,47 @@ no-issuer T told input left first (BadData at) given none fresh count = absurd n
 no-issuer T told input left first (BadFeed line) given none fresh count = absurd none
 no-issuer T told input left first NoKey given none fresh count = absurd none
 
--- ---- the configuration says an issuer
-
-pub says-issuer : (seen : Seen) (config : List ℕ) (issuer : Setup)
-    → IsConfigured (seen.desk.tells config) (Ok issuer) → SaysIssuer seen config issuer
-says-issuer seen config issuer said = record { content = said.content; held = said.held; says = said.says }
-
--- and the words are a command to serve or to show
-pub is-set_up : (seen : Seen) (config : List ℕ) (requests : Option RequestFile) (journal : List ℕ) (issuer : Setup)
-    → IsCommand seen.words config requests journal → IsConfigured (seen.desk.tells config) (Ok issuer)
-    → IsSetUp seen requests journal issuer
-is-set_up seen config requests journal issuer command said = record {
-  config = config;
-  content = said.content;
-  command = command;
-  held = said.held;
-  says = said.says;
-}
-
 -- ---- the configuration gave no issuer
 
-module _ (seen : Seen) (config : List ℕ) (ending : Ending) (command : ReadsConfig seen.words config)
+module _ (config : List ℕ) (seen : Seen) (ending : Ending)
     (no_requests : is_some seen.requests ≡ false) (none_opened : seen.journals ≡ no_journals) where
   -- no memory was left
-  lacks : OpenedNoInput seen ⊎ OpenedConfigOnly seen → IsNoMemory seen (stop_text NoMemory)
-  lacks opened =
-      ⊎_elim (λ over. lacks-none seen config over.0 over.1 none_opened opened)
-      (λ pin. lacks-pin seen pin.0 pin.1 none_opened opened) command
+  lacks : OpenedNoInput seen ⊎ OpenedConfigOnly seen → CannotConfigure seen (stop_text NoMemory)
+  lacks opened = record { opened = opened; none_opened = none_opened; last = refl }
 
   -- the configuration is broken
   is-broken : (fault : ConfigFault) (stop : Stop) → stop ≡ config_stop fault → OpenedConfigOnly seen
-      → IsConfigured (seen.desk.tells config) (Err fault) → IsConfig stop seen (stop_text stop)
+      → IsConfigured (seen.desk.tells config) (Err fault) → IsConfig config seen stop (stop_text stop)
   is-broken fault stop stop_is opened said = record {
-    config = config;
-    content = said.content;
     fault = fault;
-    command = command;
     opened = opened;
     none_opened = none_opened;
-    held = said.held;
-    broken = said.says;
+    broken = said;
     stop_is = stop_is;
     last = refl;
   }
 
   broken : (fault : ConfigFault) → OpenedConfigOnly seen → IsConfigured (seen.desk.tells config) (Err fault)
-      → Stops (config_stop fault) seen (stop_text (config_stop fault))
+      → StopsAtConfig config seen (config_stop fault) (stop_text (config_stop fault))
   broken NotJson opened said = is-broken NotJson (Config 1 0) refl opened said
   broken (At part index) opened said = is-broken (At part index) (Config (number_of_part part) index) refl opened said
   broken NoTextRoom opened said = lacks (inr opened)
 
   -- the run stops by a cause that is this one
-  ends_for : (stop cause : Stop) → cause ≡ stop → Stops stop seen (stop_text stop) → StopsAtOnce seen cause ending
-      → EndsBy seen ending
+  ends_for : (stop cause : Stop) → cause ≡ stop → StopsAtConfig config seen stop (stop_text stop)
+      → StopsAtOnce seen cause ending → EndsBy (ways_to_give_no_issuer config seen) seen ending
   ends_for stop cause same why stopping =
-      ends_at_once seen stop ending why (subst (λ (s : Stop). StopsAtOnce seen s ending) same stopping)
+      ends_at_once (ways_to_give_no_issuer config seen) seen stop ending why
+      (subst (λ (s : Stop). StopsAtOnce seen s ending) same stopping)
 
   -- it stops by the cause for which there is no issuer
   pub ends_unopened : (opened : Option SeenInput) (cause : Stop) → seen.config ≡ opened
-      → OpensNoIssuer seen.desk config opened cause → StopsAtOnce seen cause ending → EndsBy seen ending
+      → OpensNoIssuer seen.desk config opened cause → StopsAtOnce seen cause ending
+      → EndsBy (ways_to_give_no_issuer config seen) seen ending
   ends_unopened None cause is none stopping =
       ⊎_elim
       (λ fails. ends_for ReadFault cause fails.0
       (inl (record {
-        config = config;
-        command = command;
         fails = record {
           config_is = ap is_some is;
           requests_is = no_requests;
@@ -161,15 +135,13 @@ module _ (seen : Seen) (config : List ℕ) (ending : Ending) (command : ReadsCon
       (λ bad. ends_for (config_stop bad.0) cause bad.2 (broken bad.0 opened bad.1) stopping)
       (λ more. ⊎_elim
       (λ failed. ends_for ReadFault cause failed.0
-      (inr (inl (record {
-        config = config;
-        command = command;
+      (inr (record {
         opened = opened;
         failed =
             subst (λ c. IsSomeAnd c (λ (i : SeenInput). 0 < i.faults)) (sym is) failed.1;
         none_opened = none_opened;
         last = refl;
-      })))
+      }))
       stopping)
       (λ full. ends_for NoMemory cause full (lacks (inr opened)) stopping) more)
       none.1

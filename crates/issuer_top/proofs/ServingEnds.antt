@@ -22,27 +22,33 @@ use Rattle.line_blocks.specs.declared.served.Served.TheVariants.{TooLong as Long
 use Rattle.issuer_top.specs.Seen.{Seen, SeenInput}
 use Rattle.line_blocks.specs.Answered.{AreAllLines, AreWholeLines, AreLinesBefore, AreFirstLines}
 use Rattle.line_serving.specs.Leaving.{LeavesAnswered, LeavesLoaded}
-use Rattle.issuer_top.specs.Opening.{GivesInput, stop_of}
+use Rattle.issuer_top.specs.Opening.{GivesInput, SaysIssuer, stop_of}
 use Rattle.command_line.specs.Command.{RequestFile}
 use Rattle.line_blocks.specs.Serving.{ServesLines, Serves, read_failed, write_failed}
 use Rattle.issuer_top.specs.Stopping.{EndsServing}
 use Rattle.issuer_top.specs.Opened.{OpenedConfigOnly, OpenedBothInputs}
-use Rattle.issuer_top.specs.Endings.{IsSetUp, AnswersLines}
-use Rattle.issuer_top.specs.Endings.{AnswersNoLine}
-use Rattle.issuer_top.specs.Endings.{EndsBy}
+use Rattle.issuer_top.specs.Serving.{AnswersLines, AnswersNoLine, ways_to_serve}
+use Rattle.issuer_top.specs.Ways.{Ends, EndsBy}
 use Rattle.issuer_top.proofs.EndingSteps.{ends_at_once, ends_by_stop, told-given, StopsAtOnce}
 
-module _ (seen : Seen) (requests : RequestFile) (journal : List ℕ) (issuer : Setup)
-    (set_up : IsSetUp seen (Some requests) journal issuer) where
+-- the ways of a run with as many callers as the words say
+pub with-callers : (config : List ℕ) (file : RequestFile) (callers : ℕ) (journal : List ℕ) (seen : Seen) (status : ℕ)
+    → callers ≡ file.callers
+    → Ends (ways_to_serve config (record { name = file.name; callers = callers }) journal seen) status seen
+    → Ends (ways_to_serve config file journal seen) status seen
+with-callers config file callers journal seen status same ends =
+    subst (λ (n : ℕ). Ends (ways_to_serve config (record { name = file.name; callers = n }) journal seen) status seen)
+    same ends
+
+module _ (config : List ℕ) (requests : RequestFile) (journal : List ℕ) (seen : Seen) (issuer : Setup)
+    (said : SaysIssuer seen config issuer) where
   -- the journals were loaded, and no line was answered
-  answers-none : LeavesLoaded requests.callers issuer journal seen.desk.logs seen.journals → AnswersNoLine seen
+  answers-none : LeavesLoaded requests.callers issuer journal seen.desk.logs seen.journals → AnswersNoLine config requests journal seen
   answers-none leaves = record {
-    requests = requests;
-    journal = journal;
     issuer = issuer;
     first = leaves.first;
     last = leaves.last;
-    set_up = set_up;
+    said = said;
     kept = leaves.kept;
     lawful = leaves.lawful;
     none = leaves.none;
@@ -51,11 +57,11 @@ module _ (seen : Seen) (requests : RequestFile) (journal : List ℕ) (issuer : S
   -- no memory was left to serve with
   pub ends_unserved : (ending : Ending) → OpenedConfigOnly seen
       → LeavesLoaded requests.callers issuer journal seen.desk.logs seen.journals → StopsAtOnce seen NoMemory ending
-      → EndsBy seen ending
+      → EndsBy (ways_to_serve config requests journal seen) seen ending
   unfolding answers-none
   ends_unserved ending opened leaves stopping =
-      ends_at_once seen NoMemory ending
-      (inr (inl (record { loaded = answers-none leaves; opened = opened; left = leaves.left; told = refl })))
+      ends_at_once (ways_to_serve config requests journal seen) seen NoMemory ending
+      (inr (record { loaded = answers-none leaves; opened = opened; left = leaves.left; last = refl }))
       stopping
 
   -- the desk gave no request file
@@ -64,11 +70,11 @@ module _ (seen : Seen) (requests : RequestFile) (journal : List ℕ) (issuer : S
       → LeavesLoaded requests.callers issuer journal seen.desk.logs seen.journals
       → between ≡ seen.desk.faults_before → CountsFaults between seen.desk.faults_after (is_fault {T = T} (Err fault))
       → seen.desk.last_fault ≡ last_after Read requests.name (is_fault {T = T} (Err fault)) other
-      → StopsAtOnce seen (stop_of fault) ending → EndsBy seen ending
+      → StopsAtOnce seen (stop_of fault) ending → EndsBy (ways_to_serve config requests journal seen) seen ending
   unfolding answers-none
   ends_no_requests T other between Fault ending with_config no_requests leaves stood desk_count last stopping =
-      ends_at_once seen ReadFault ending
-      (inr (inr (inl (record {
+      ends_at_once (ways_to_serve config requests journal seen) seen ReadFault ending
+      (inr (inl (record {
         loaded = answers-none leaves;
         fails = record {
           config_is = with_config;
@@ -76,8 +82,8 @@ module _ (seen : Seen) (requests : RequestFile) (journal : List ℕ) (issuer : S
           rose = subst (λ (n : ℕ). Rose n seen.desk.faults_after) stood desk_count.counted;
           call_is = last;
         };
-        told = refl;
-      }))))
+        last = refl;
+      })))
       stopping
   ends_no_requests T other between NoRoom ending with_config no_requests leaves stood desk_count last stopping =
       ends_unserved ending (record {
@@ -94,12 +100,10 @@ module _ (seen : Seen) (requests : RequestFile) (journal : List ℕ) (issuer : S
     -- what was served are lines of the file that the desk holds
     lines-served : (Which : List ℕ → List ℕ → List (List ℕ) → Type 0) (Written : List ℕ → Type 0)
         → (served : ServesLines Which Answered Written left input.left) → length served.asked ≤ MAX_LINES
-        → AnswersLines seen served.text
+        → AnswersLines config requests journal seen served.text
     lines-served Which Written served within =
         let l = leaves served.asked served.text within served.answered in
         record {
-          requests = requests;
-          journal = journal;
           issuer = issuer;
           first = l.first;
           last = l.last;
@@ -110,7 +114,7 @@ module _ (seen : Seen) (requests : RequestFile) (journal : List ℕ) (issuer : S
           answers = l.answers;
           opened = opened;
           input_is = input_is;
-          set_up = set_up;
+          said = said;
           kept = l.kept;
           lawful = l.lawful;
           held = told-given (seen.desk.tells requests.name) left served.file given served.content;
@@ -134,38 +138,38 @@ module _ (seen : Seen) (requests : RequestFile) (journal : List ℕ) (issuer : S
         → Serves Answered left input.left seen.sink.held_before held served
         → CountsFaults seen.sink.faults_before faults (write_failed served)
         → fresh ≡ 0 → (read_failed served ≡ true → Rose fresh input.faults)
-        → EndsServing held seen.sink.held_after faults seen.sink.faults_after served ending → EndsBy seen ending
+        → EndsServing held seen.sink.held_after faults seen.sink.faults_after served ending → EndsBy (ways_to_serve config requests journal seen) seen ending
     unfolding lines-served
     ends_serving All ending held faults fresh serves counts none failed ends =
         let written : Appends seen.sink.held_before seen.sink.held_after serves.text =
         subst (λ (h : Option (List ℕ)). Appends seen.sink.held_before h serves.text) (sym ends.same) serves.written in
         let within = all-within serves.file serves.read serves.asked serves.which in
-        subst (EndsBy seen) (sym ends.ending_is) (
+        subst (EndsBy (ways_to_serve config requests journal seen) seen) (sym ends.ending_is) (
           serves.text,
-          inl (record {
+          record {
             lines = lines-served AreAllLines (Appends seen.sink.held_before held) serves within;
             which = serves.which;
-          }),
+          },
           written,
         )
     ends_serving SinkFault ending held faults fresh serves counts none failed ends =
         let within = first-within serves.file serves.read serves.asked serves.which in
-        subst (EndsBy seen) (sym ends.ending_is)
+        subst (EndsBy (ways_to_serve config requests journal seen) seen) (sym ends.ending_is)
         (record {
           rose = subst (Rose seen.sink.faults_before) (sym ends.stood) counts.counted;
           text = serves.text;
-          due = inr (inl (record {
+          due = inr (record {
             lines = lines-served AreFirstLines (AppendsFront seen.sink.held_before held) serves within;
             which = serves.which;
-          }));
+          });
           front =
               subst (λ (h : Option (List ℕ)). AppendsFront seen.sink.held_before h serves.text) (sym ends.same)
               serves.written;
         })
     ends_serving ReadStopped ending held faults fresh serves counts none failed ends =
         let rose : Rose 0 input.faults = subst (λ (n : ℕ). Rose n input.faults) none (failed refl) in
-        ends_by_stop seen held faults ReadFault ending serves.text
-        (inr (inr (inr (inl (record {
+        ends_by_stop (ways_to_serve config requests journal seen) seen held faults ReadFault ending serves.text
+        (inr (inr (record {
           answers = serves.text;
           lines =
               lines-served (λ file read asked. AreWholeLines read asked) (Appends seen.sink.held_before held) serves
@@ -173,11 +177,11 @@ module _ (seen : Seen) (requests : RequestFile) (journal : List ℕ) (issuer : S
           which = serves.which;
           failed = Rose-from_none input.faults rose;
           last = refl;
-        })))))
+        })))
         serves.written counts.never_falls ends
     ends_serving (LongStopped number) ending held faults fresh serves counts none failed ends =
-        ends_by_stop seen held faults (TooLong number) ending serves.text
-        (inl (record {
+        ends_by_stop (ways_to_serve config requests journal seen) seen held faults (TooLong number) ending serves.text
+        (inr (record {
           answers = serves.text;
           lines =
               lines-served (λ file read asked. AreLinesBefore number read asked) (Appends seen.sink.held_before held)

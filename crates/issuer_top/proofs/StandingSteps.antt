@@ -54,18 +54,16 @@ use Rattle.issuer_base.specs.Tells.{Tells}
 use Rattle.std.proofs.KnownBytes.{Appends-nil}
 use Rattle.line_blocks.specs.Answered.{WasRead}
 use Rattle.desk_host.specs.Lawful.{IsLawful}
-use Rattle.command_line.specs.Command.{IsStandby}
 use Rattle.issuer_top.specs.declared.ending.Ending.{Ending}
 use Rattle.issuer_top.specs.Seen.{Seen, SeenInput}
-use Rattle.issuer_top.specs.Opening.{GivesInput, stop_of}
+use Rattle.issuer_top.specs.Opening.{GivesInput, SaysIssuer, stop_of}
 use Rattle.issuer_top.specs.Opened.{OpenedConfigOnly, OpenedBothInputs}
-use Rattle.issuer_top.specs.PinChanges.{SaysIssuer}
 use Rattle.issuer_top.specs.ReadAgain.{StayLoaded, FailOnlyAt, none_fails}
-use Rattle.issuer_top.specs.Standing.{AreLawfulReplicas, IsReplicaImage, IsStandingBy, KeepReplicas, KeepsReplica}
-use Rattle.issuer_top.specs.Standing.{LoadsToStandBy, MayFollow, StandsBy}
+use Rattle.issuer_top.specs.Standing.{AreLawfulReplicas, IsReplicaImage, KeepReplicas, KeepsReplica}
+use Rattle.issuer_top.specs.Standing.{LoadsToStandBy, MayFollow, StandsBy, ways_to_stand_by}
 use Rattle.issuer_top.proofs.ReplicaLaws.{lawful-replicas}
 use Rattle.issuer_top.specs.Stopping.{EndsFollowing}
-use Rattle.issuer_top.specs.Endings.{HasIssuer, EndsBy}
+use Rattle.issuer_top.specs.Ways.{EndsBy}
 use Rattle.issuer_top.proofs.EndingSteps.{told-given, ends_by_stop, ends_at_once, StopsAtOnce}
 
 -- ---- the journals
@@ -414,66 +412,37 @@ module _ {S : Type 0} {G : Ghosts S} (issuer : Setup) (prefix : List ℕ) (logs 
 
 -- ---- the ways that a standby ends
 
--- the words and the configuration are as they should be
-pub is-standing_by : (seen : Seen) (config feed journal : List ℕ) (issuer : Setup)
-    → IsStandby seen.words config feed journal → SaysIssuer seen config issuer
-    → IsStandingBy seen feed journal issuer
-is-standing_by seen config feed journal issuer command said =
-    record { config = config; command = command; said = said }
-
--- so they are of an issuer that stays the same
-pub standing-same : (seen : Seen) (feed journal : List ℕ) (issuer other : Setup) → other ≡ issuer
-    → IsStandingBy seen feed journal issuer → IsStandingBy seen feed journal other
-standing-same seen feed journal issuer other same set_up =
-    subst (λ (i : Setup). IsStandingBy seen feed journal i) (sym same) set_up
-
--- and so are the shards that were loaded, of whose journals the desk tells the same
+-- shards were loaded, of whose journals the desk tells the same
 pub ready-same : {S : Type 0} {G : Ghosts S} (issuer : Setup) (prefix : List ℕ) (logs other : Logged) (olds : List S)
     (shards : List (Shard S G)) → logs ≡ other
     → IsReady issuer prefix logs olds shards → IsReady issuer prefix other olds shards
 ready-same issuer prefix logs other olds shards same ready =
     subst (λ (l : Logged). IsReady issuer prefix l olds shards) same ready
 
--- they are those of a command over journals
-pub standby-issuer : (seen : Seen) (feed journal : List ℕ) (issuer : Setup) → IsStandingBy seen feed journal issuer
-    → HasIssuer seen journal issuer
-standby-issuer seen feed journal issuer set_up = record {
-  config = set_up.config;
-  command = inr (inr (inr (feed, set_up.command)));
-  said = set_up.said;
-}
-
-module _ (seen : Seen) (feed journal : List ℕ) (issuer : Setup) (set_up : IsStandingBy seen feed journal issuer) where
+module _ (config feed journal : List ℕ) (seen : Seen) (issuer : Setup) (said : SaysIssuer seen config issuer) where
   module _ (stay : StayLoaded issuer journal seen.desk.logs seen.journals)
       (counted : FailOnlyAt seen.journals.stores none_fails) where
-    loads : LoadsToStandBy seen
-    loads = record {
-      feed = feed;
-      journal = journal;
-      issuer = issuer;
-      set_up = set_up;
-      stay = stay;
-      counted = counted;
-    }
+    loads : LoadsToStandBy config journal seen
+    loads = record { issuer = issuer; said = said; stay = stay; counted = counted }
 
     -- no memory was left to take a feed with
     pub ends_unfollowed : (ending : Ending) → OpenedConfigOnly seen → StopsAtOnce seen NoMemory ending
-        → EndsBy seen ending
+        → EndsBy (ways_to_stand_by config feed journal seen) seen ending
     unfolding loads
     ends_unfollowed ending opened stopping =
-        ends_at_once seen NoMemory ending
-        (inr (inr (inr (inr (inr (inr (record { loaded = loads; opened = opened; told = refl }))))))) stopping
+        ends_at_once (ways_to_stand_by config feed journal seen) seen NoMemory ending
+        (inr (record { loaded = loads; opened = opened; last = refl })) stopping
 
     -- the desk gave no feed
     pub ends_no_feed : (T : Type 0) (other : Option FailedCall) (between : ℕ) (fault : DeskFault) (ending : Ending)
         → is_some seen.config ≡ true → is_some seen.requests ≡ false
         → between ≡ seen.desk.faults_before → CountsFaults between seen.desk.faults_after (is_fault {T = T} (Err fault))
         → seen.desk.last_fault ≡ last_after Read feed (is_fault {T = T} (Err fault)) other
-        → StopsAtOnce seen (stop_of fault) ending → EndsBy seen ending
+        → StopsAtOnce seen (stop_of fault) ending → EndsBy (ways_to_stand_by config feed journal seen) seen ending
     unfolding loads
     ends_no_feed T other between Fault ending with_config no_requests stood desk_count last stopping =
-        ends_at_once seen ReadStop ending
-        (inr (inr (inr (inr (inr (inr (inl (record {
+        ends_at_once (ways_to_stand_by config feed journal seen) seen ReadStop ending
+        (inr (inl (record {
           loaded = loads;
           fails = record {
             config_is = with_config;
@@ -481,8 +450,8 @@ module _ (seen : Seen) (feed journal : List ℕ) (issuer : Setup) (set_up : IsSt
             rose = subst (λ (n : ℕ). Rose n seen.desk.faults_after) stood desk_count.counted;
             call_is = last;
           };
-          told = refl;
-        }))))))))
+          last = refl;
+        })))
         stopping
     ends_no_feed T other between NoDeskRoom ending with_config no_requests stood desk_count last stopping =
         ends_unfollowed ending (record {
@@ -508,12 +477,10 @@ module _ (seen : Seen) (feed journal : List ℕ) (issuer : Setup) (set_up : IsSt
         (MayFollow issuer (histories_of first) reads.file reads.read followed histories reads.takes)
         × AreLawfulReplicas issuer histories
 
-    stands : (followed : Followed) (histories : List (List Entry)) → Took followed histories → StandsBy followed seen
+    stands : (followed : Followed) (histories : List (List Entry)) → Took followed histories → StandsBy followed config feed journal seen
     stands followed histories took = record {
-      feed = feed;
-      journal = journal;
       issuer = issuer;
-      set_up = set_up;
+      said = said;
       opened = opened;
       input = input;
       input_is = input_is;
@@ -535,44 +502,41 @@ module _ (seen : Seen) (feed journal : List ℕ) (issuer : Setup) (set_up : IsSt
         → WritesCounts followed seen.sink.held_before held (counts_text histories)
         → CountsFaults seen.sink.faults_before faults (write_failed followed)
         → fresh ≡ 0 → (read_failed followed ≡ true → Rose fresh input.faults)
-        → EndsFollowing held seen.sink.held_after faults seen.sink.faults_after followed ending → EndsBy seen ending
+        → EndsFollowing held seen.sink.held_after faults seen.sink.faults_after followed ending → EndsBy (ways_to_stand_by config feed journal seen) seen ending
     unfolding stands
     ends_following All histories ending held faults fresh took writes counts none failed ends =
-        subst (EndsBy seen) (sym ends.ending_is) (
+        subst (EndsBy (ways_to_stand_by config feed journal seen) seen) (sym ends.ending_is) (
           counts_text histories,
-          inr (inr (inr (inr (inr (inr (inr (record { stands = stands All histories took; text_is = refl }))))))),
+          record { stands = stands All histories took; text_is = refl },
           subst (λ (h : Option (List ℕ)). Appends seen.sink.held_before h (counts_text histories)) (sym ends.same) writes,
         )
     ends_following WriteFault histories ending held faults fresh took writes counts none failed ends =
-        subst (EndsBy seen) (sym ends.ending_is) (record {
+        subst (EndsBy (ways_to_stand_by config feed journal seen) seen) (sym ends.ending_is) (record {
           rose = subst (Rose seen.sink.faults_before) (sym ends.stood) counts.counted;
           text = counts_text histories;
-          due = inr (inr (inr (inr (inr (inr (inr (inr (inr (inr (record {
-            stands = stands WriteFault histories took;
-            text_is = refl;
-          }))))))))));
+          due = inr (record { stands = stands WriteFault histories took; text_is = refl });
           front =
               subst (λ (h : Option (List ℕ)). AppendsFront seen.sink.held_before h (counts_text histories))
               (sym ends.same) writes;
         })
     ends_following ReadFault histories ending held faults fresh took writes counts none failed ends =
         let rose : Rose 0 input.faults = subst (λ (n : ℕ). Rose n input.faults) none (failed refl) in
-        ends_by_stop seen held faults ReadStop ending []
-        (inr (inr (inr (inr (inr (inr (inr (record {
+        ends_by_stop (ways_to_stand_by config feed journal seen) seen held faults ReadStop ending []
+        (inr (inr (record {
           stands = stands ReadFault histories took;
           failed = Rose-from_none input.faults rose;
           last = refl;
-        }))))))))
+        })))
         (unwritten held writes) counts.never_falls ends
     ends_following (TooLong line) histories ending held faults fresh took writes counts none failed ends =
-        ends_by_stop seen held faults (LongStop line) ending []
-        (inr (inr (record { stands = stands (TooLong line) histories took; last = refl })))
+        ends_by_stop (ways_to_stand_by config feed journal seen) seen held faults (LongStop line) ending []
+        (inr (record { stands = stands (TooLong line) histories took; last = refl }))
         (unwritten held writes) counts.never_falls ends
     ends_following (BadFeed line) histories ending held faults fresh took writes counts none failed ends =
-        ends_by_stop seen held faults (FeedStop line) ending []
-        (record { stands = stands (BadFeed line) histories took; last = refl })
+        ends_by_stop (ways_to_stand_by config feed journal seen) seen held faults (FeedStop line) ending []
+        (inr (record { stands = stands (BadFeed line) histories took; last = refl }))
         (unwritten held writes) counts.never_falls ends
     ends_following (StoreFault shard) histories ending held faults fresh took writes counts none failed ends =
-        ends_by_stop seen held faults (StoreStop shard) ending []
-        (inr (inr (inr (record { stands = stands (StoreFault shard) histories took; last = refl }))))
+        ends_by_stop (ways_to_stand_by config feed journal seen) seen held faults (StoreStop shard) ending []
+        (inr (record { stands = stands (StoreFault shard) histories took; last = refl }))
         (unwritten held writes) counts.never_falls ends

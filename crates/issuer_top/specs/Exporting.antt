@@ -3,7 +3,7 @@ use Rattle.std.specs.Prelude.{◌≡◌, ◌⊎◌, ℕ, ◌+◌, ◌<◌, ◌==
 use Rattle.issuer_base.specs.declared.entry.Entry.{Entry}
 use Rattle.answer_text.specs.StopText.{stop_text}
 use Rattle.answer_text.specs.declared.stop_line.Stop.{Stop}
-use Rattle.answer_text.specs.declared.stop_line.Stop.TheVariants.{NoMemory}
+use Rattle.answer_text.specs.declared.stop_line.Stop.TheVariants.{StoreFault as StoreStop, BadJournal, NoMemory}
 use Rattle.issuer_setup.specs.IssuerSetup.{Setup}
 use Rattle.host_loading.specs.Books.{ShardBook}
 use Rattle.command_line.specs.Command.{IsExport}
@@ -13,22 +13,18 @@ use Rattle.journal_reader.specs.Filing.{fault_of}
 use Rattle.journal_reader.specs.Exporting.{feed_text}
 use Rattle.desk_host.specs.SeenStores.{SeenJournals}
 use Rattle.issuer_top.specs.Opened.{OpenedConfigOnly}
-use Rattle.issuer_top.specs.PinChanges.{SaysIssuer}
+use Rattle.issuer_top.specs.InOrder.{AreObservable, IsInOrder}
+use Rattle.issuer_top.specs.Opening.{SaysIssuer}
 use Rattle.issuer_top.specs.ReadAgain.{StayLoaded, AreRead, FailOnlyAt, ReadsAs, StopsReading, failed_at, none_fails}
 use Rattle.issuer_top.specs.ReadAgain.{stop_of_reading}
 use Rattle.issuer_top.specs.Seen.{Seen}
-
--- the words are the command to export, with this name of journals, and the configuration says this issuer
-pub record IsExporting (seen : Seen) (journal : List ℕ) (issuer : Setup) : Type 0 where
-  pub config : List ℕ
-  pub command : IsExport seen.words config journal
-  pub said : SaysIssuer seen config issuer
+use Rattle.issuer_top.specs.Stops.{StopsBefore}
+use Rattle.issuer_top.specs.Ways.{Ways, Runs}
 
 -- the journals were loaded to be exported, and are as loading left them; only the configuration was opened besides
-pub record LoadsToExport (seen : Seen) : Type 0 where
-  pub journal : List ℕ
+pub record LoadsToExport (config journal : List ℕ) (seen : Seen) : Type 0 where
   pub issuer : Setup
-  pub set_up : IsExporting seen journal issuer
+  pub said : SaysIssuer seen config issuer
   pub stay : StayLoaded issuer journal seen.desk.logs seen.journals
   pub opened : OpenedConfigOnly seen
 
@@ -63,14 +59,14 @@ IsLineAfter records (BadLine line) = (line ≡ length records + 2) ⊎ ((records
 -- ---- the ways to end
 
 -- status 0: the feed of all records was written, and no store failed; at status 4 it was due
-pub record IsExported (seen : Seen) (text : List ℕ) : Type 0 where
-  pub loaded : LoadsToExport seen
+pub record IsExported (config journal : List ℕ) (seen : Seen) (text : List ℕ) : Type 0 where
+  pub loaded : LoadsToExport config journal seen
   pub stood : FailOnlyAt seen.journals.stores none_fails
   pub feed : IsFeed seen.journals loaded.stay.first text
 
 -- status 4: the feed of the first records. At most the store of the shard that they end in failed
-pub record IsExportBegun (seen : Seen) (text : List ℕ) : Type 0 where
-  pub loaded : LoadsToExport seen
+pub record IsExportBegun (config journal : List ℕ) (seen : Seen) (text : List ℕ) : Type 0 where
+  pub loaded : LoadsToExport config journal seen
   pub shard : ℕ
   pub counted :
       FailOnlyAt seen.journals.stores none_fails ⊎ FailOnlyAt seen.journals.stores (λ number. shard == number)
@@ -78,8 +74,8 @@ pub record IsExportBegun (seen : Seen) (text : List ℕ) : Type 0 where
 
 -- statuses 5 and 6: the journals were loaded, and the one of this shard couldn't be read on; the feed of the records
 -- before is written, and a bad line is the one after them. No other store failed
-pub record CannotReadOn (stop : Stop) (seen : Seen) (text : List ℕ) : Type 0 where
-  pub loaded : LoadsToExport seen
+pub record CannotReadOn (config journal : List ℕ) (seen : Seen) (stop : Stop) (text : List ℕ) : Type 0 where
+  pub loaded : LoadsToExport config journal seen
   pub shard : ℕ
   pub fault : RecordFault
   pub counted : FailOnlyAt seen.journals.stores (failed_at (fault_of fault) shard)
@@ -91,7 +87,34 @@ pub record CannotReadOn (stop : Stop) (seen : Seen) (text : List ℕ) : Type 0 w
   pub last : text ≡ written ++ stop_text stop
 
 -- status 7: no memory was left to export with, once the journals were loaded; no store failed
-pub record CannotExport (seen : Seen) (text : List ℕ) : Type 0 where
-  pub loaded : LoadsToExport seen
+pub record CannotExport (config journal : List ℕ) (seen : Seen) (text : List ℕ) : Type 0 where
+  pub loaded : LoadsToExport config journal seen
   pub stood : FailOnlyAt seen.journals.stores none_fails
-  pub told : text ≡ stop_text NoMemory
+  pub last : text ≡ stop_text NoMemory
+
+-- how a run stops once its journals were loaded
+abbrev pub StopsToExport : List ℕ → List ℕ → Seen → Stop → List ℕ → Type 0
+StopsToExport config journal seen (StoreStop shard) text = CannotReadOn config journal seen (StoreStop shard) text
+StopsToExport config journal seen (BadJournal shard line) text =
+    CannotReadOn config journal seen (BadJournal shard line) text
+StopsToExport config journal seen NoMemory text = CannotExport config journal seen text
+StopsToExport config journal seen stop text = ⊥
+
+abbrev pub ways_to_export : List ℕ → List ℕ → Seen → Ways
+ways_to_export config journal seen = record {
+  IsDone = IsExported config journal seen;
+  Stops = λ stop text. StopsBefore config journal seen stop text ⊎ StopsToExport config journal seen stop text;
+  IsDue = λ text. IsExportBegun config journal seen text ⊎ IsExported config journal seen text;
+}
+
+-- ---- the command
+
+-- all is in order, and the stores' bytes are observable
+pub record ExportsInOrder (config journal : List ℕ) (seen : Seen) : Type 0 where
+  pub in_order : IsInOrder config journal seen
+  pub stores_told : AreObservable seen.journals.stores
+
+-- if the words are the command to export, with these names, the run ends in one of its ways
+abbrev pub RunsExport : List (List ℕ) → ℕ → Seen → Type 0
+RunsExport words status seen = (config journal : List ℕ) → IsExport words config journal
+    → Runs (ways_to_export config journal seen) (ExportsInOrder config journal seen) status seen

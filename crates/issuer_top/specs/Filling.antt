@@ -3,7 +3,7 @@ use Rattle.std.specs.Prelude.{◌≡◌, ℕ, ◌⊎◌, List, Option, Result, O
 use Rattle.issuer_base.specs.OutsideFaults.{Rose}
 use Rattle.arrayvec.specs.ArrayVec.{ArrayVec}
 use Rattle.answer_text.specs.AnswerText.{bytes_text}
-use Rattle.answer_text.specs.StopText.{status_of_stop}
+use Rattle.answer_text.specs.StopText.{status_of_stop, stop_text}
 use Rattle.answer_text.specs.declared.stop_line.Stop.{Stop}
 use Rattle.answer_text.specs.declared.stop_line.Stop.TheVariants.{BadDol as StopsAtDol, BadData as StopsAtData}
 use Rattle.terminal_kernel.specs.declared.dol.DolEntry.{DolEntry}
@@ -13,9 +13,11 @@ use Rattle.terminal_kernel.specs.Dol.{dol_of}
 use Rattle.terminal_kernel.specs.Given.{DataObject, data_of}
 use Rattle.terminal_kernel.specs.Filling.{filled}
 use Rattle.command_line.specs.Command.{IsFill}
-use Rattle.issuer_top.specs.Played.{GivesText}
-use Rattle.issuer_top.specs.Stopping.{GivesStop}
+use Rattle.desk_host.specs.SeenStores.{no_journals}
+use Rattle.issuer_top.specs.Opened.{OpenedNoInput}
+use Rattle.issuer_top.specs.Stopping.{GivesStop, GivesText}
 use Rattle.issuer_top.specs.Seen.{Seen}
+use Rattle.issuer_top.specs.Ways.{Ways, Ends}
 use Rattle.issuer_top.specs.declared.ending.Ending.{Ending}
 
 -- a DOL, filled from data objects, or the error of the one that was parsed first: the DOL
@@ -40,9 +42,35 @@ abbrev pub fill_status : Result (List ℕ) Stop → ℕ
 fill_status (Ok bytes) = 0
 fill_status (Err stop) = status_of_stop stop
 
--- where the words are the command to fill a DOL, the status is 0, or 9 or 10 by the first error; or 4, and the sink
--- failed
-abbrev pub Fills : ℕ → Seen → Type 0
-Fills status seen = (dol given : List ℕ) → IsFill seen.words dol given
-    → (status ≡ fill_status (filling dol given))
-    ⊎ ((status ≡ 4) × Rose seen.sink.faults_before seen.sink.faults_after)
+-- ---- the ways to end
+
+-- status 0: a DOL was filled, and this is the line of its bytes; nothing was opened
+pub record IsFilled (dol given : List ℕ) (seen : Seen) (text : List ℕ) : Type 0 where
+  pub bytes : List ℕ
+  pub opened : OpenedNoInput seen
+  pub none_opened : seen.journals ≡ no_journals
+  pub filled_is : filling dol given ≡ Ok bytes
+  pub text_is : text ≡ bytes_text bytes
+
+-- statuses 9 and 10: the DOL or the data are broken, and the first error is reported; nothing was opened
+pub record CannotFill (dol given : List ℕ) (seen : Seen) (stop : Stop) (text : List ℕ) : Type 0 where
+  pub opened : OpenedNoInput seen
+  pub none_opened : seen.journals ≡ no_journals
+  pub cause : filling dol given ≡ Err stop
+  pub last : text ≡ stop_text stop
+
+abbrev pub ways_to_fill : List ℕ → List ℕ → Seen → Ways
+ways_to_fill dol given seen =
+    record { IsDone = IsFilled dol given seen; Stops = CannotFill dol given seen; IsDue = IsFilled dol given seen }
+
+-- ---- the command
+
+-- the run ended in one of its ways: the status is 0, or 9 or 10 by the first error; or 4, and the sink failed
+pub record Fills (dol given : List ℕ) (status : ℕ) (seen : Seen) : Type 0 where
+  pub ends : Ends (ways_to_fill dol given seen) status seen
+  pub status_is : (status ≡ fill_status (filling dol given))
+      ⊎ ((status ≡ 4) × Rose seen.sink.faults_before seen.sink.faults_after)
+
+-- if the words are the command to fill a DOL, whose bytes they spell, the run ends in one of its ways
+abbrev pub RunsFill : List (List ℕ) → ℕ → Seen → Type 0
+RunsFill words status seen = (dol given : List ℕ) → IsFill words dol given → Fills dol given status seen

@@ -1,14 +1,21 @@
--- How a run of the program may end, from its words to its last line.
+-- How a run of the program may end, from its words to its last line: what its commands have in common, and then a file
+-- for each.
 pub mod Seen
+pub mod Opened
 pub mod Opening
 pub mod Status
-pub mod Opened
+pub mod Ways
+pub mod Stops
+pub mod InOrder
+pub mod Serving
+pub mod Showing
 pub mod ReadAgain
 pub mod Clearing
 pub mod Exporting
 pub mod Standing
-pub mod Endings
-pub mod Stopping
+pub mod PinChanges
 pub mod Played
 pub mod Filling
-pub mod PinChanges
+pub mod Refusing
+pub mod Tasks
+pub mod Stopping

@@ -1,5 +1,5 @@
 -- What a desk gives under a name, what stops a run where it gives no input, and what a configuration says.
-use Rattle.std.specs.Prelude.{◌≡◌, ℕ, ◌<◌, ◌⊎◌, List, Option, None, Some, Result, Err}
+use Rattle.std.specs.Prelude.{◌≡◌, ℕ, ◌<◌, ◌⊎◌, List, Option, None, Some, Result, Ok, Err}
 use Rattle.issuer_base.specs.OutsideFaults.{Rose}
 use Rattle.issuer_base.specs.Tells.{Tells}
 use Rattle.issuer_base.specs.declared.outside.DeskCall.TheVariants.{Read}
@@ -11,7 +11,7 @@ use Rattle.issuer_setup.specs.IssuerSetup.{Setup}
 use Rattle.config_read.specs.declared.fault.ConfigFault.{ConfigFault}
 use Rattle.config_read.specs.Configuration.{configured}
 use Rattle.desk_host.specs.Configuration.{config_stop}
-use Rattle.issuer_top.specs.Seen.{SeenDesk, SeenInput}
+use Rattle.issuer_top.specs.Seen.{Seen, SeenDesk, SeenInput}
 
 -- the desk gave an input that has this left: it is what the desk tells of the name, and something stands there
 pub record GivesInput (told : Option (Option (List ℕ))) (left : Option (List ℕ)) : Type 0 where
@@ -30,6 +30,12 @@ pub record IsConfigured (told : Option (Option (List ℕ))) (said : Result Setup
   pub content : List ℕ
   pub held : Tells told (Some content)
   pub says : configured content ≡ said
+
+-- the configuration of this name says this issuer, where the desk tells of it
+pub record SaysIssuer (seen : Seen) (config : List ℕ) (issuer : Setup) : Type 0 where
+  pub content : List ℕ
+  pub held : Tells (seen.desk.tells config) (Some content)
+  pub says : configured content ≡ Ok issuer
 
 -- the desk failed at this name of an input
 pub record FailedAt (desk : SeenDesk) (name : List ℕ) : Type 0 where

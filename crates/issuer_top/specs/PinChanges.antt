@@ -1,10 +1,9 @@
 -- How a run ends that writes a change of a PIN.
-use Rattle.std.specs.Prelude.{◌≡◌, ℕ, ◌⊎◌, List, Option, None, Some, Result, Ok, Err}
+use Rattle.std.specs.Prelude.{◌≡◌, ℕ, ◌<◌, ◌⊎◌, List, Option, None, Some, IsSomeAnd, Result, Ok, Err}
 use Rattle.std.specs.Option.{option_and_then}
 use Rattle.issuer_base.specs.OutsideFaults.{Rose}
-use Rattle.issuer_base.specs.Tells.{Tells}
 use Rattle.answer_text.specs.QueueText.{queue_text}
-use Rattle.answer_text.specs.StopText.{status_of_stop}
+use Rattle.answer_text.specs.StopText.{status_of_stop, stop_text}
 use Rattle.answer_text.specs.declared.stop_line.Stop.{Stop}
 use Rattle.answer_text.specs.declared.stop_line.Stop.TheVariants.{NoKey}
 use Rattle.des_block.specs.declared.Key16.{Key16}
@@ -19,9 +18,13 @@ use Rattle.issuer_setup.specs.IssuerSetup.{Setup}
 use Rattle.issuer_setup.specs.KeyList.{key_of}
 use Rattle.config_read.specs.Configuration.{configured}
 use Rattle.command_line.specs.Command.{PinOrder, IsPin}
-use Rattle.issuer_top.specs.Played.{GivesText}
-use Rattle.issuer_top.specs.Stopping.{GivesStop}
+use Rattle.desk_host.specs.SeenStores.{no_journals}
+use Rattle.issuer_top.specs.Opened.{OpenedConfigOnly}
+use Rattle.issuer_top.specs.Opening.{SaysIssuer}
+use Rattle.issuer_top.specs.Stopping.{GivesStop, GivesText}
 use Rattle.issuer_top.specs.Seen.{Seen}
+use Rattle.issuer_top.specs.Stops.{StopsAtConfig}
+use Rattle.issuer_top.specs.Ways.{Ways, Runs}
 use Rattle.issuer_top.specs.declared.ending.Ending.{Ending}
 
 -- the master key for confidentiality of the order's card under a key set, if the card exists and the set has the
@@ -64,29 +67,75 @@ ChangesBy (Ok text) held_before held_after faults_before faults_after ending =
 ChangesBy (Err stop) held_before held_after faults_before faults_after ending =
     GivesStop held_before held_after faults_before faults_after stop ending
 
--- the configuration of this name says this issuer, where the desk tells of it
-pub record SaysIssuer (seen : Seen) (config : List ℕ) (issuer : Setup) : Type 0 where
-  pub content : List ℕ
-  pub held : Tells (seen.desk.tells config) (Some content)
-  pub says : configured content ≡ Ok issuer
-
 -- the status of a run that writes a change of a PIN, unless the sink fails
 abbrev pub change_status : Result (List ℕ) Stop → ℕ
 change_status (Ok text) = 0
 change_status (Err stop) = status_of_stop stop
+
+-- ---- the ways to end
+
+-- the order's configuration alone was opened, and says this issuer
+pub record IsOrdered (order : PinOrder) (issuer : Setup) (seen : Seen) : Type 0 where
+  pub opened : OpenedConfigOnly seen
+  pub none_opened : seen.journals ≡ no_journals
+  pub said : SaysIssuer seen order.config issuer
+
+-- status 0: the line that queues a change of a PIN is the text, and `serve` reads it as that change
+pub record IsChanged (order : PinOrder) (seen : Seen) (text : List ℕ) : Type 0 where
+  pub issuer : Setup
+  pub ordered : IsOrdered order issuer seen
+  pub text_is : changing issuer order ≡ Ok text
+  pub read : IsReadAsChange issuer order text
+
+-- status 12: no card has the order's numbers, no key set its index, or that set no master key for confidentiality
+pub record HasNoKey (order : PinOrder) (seen : Seen) (text : List ℕ) : Type 0 where
+  pub issuer : Setup
+  pub ordered : IsOrdered order issuer seen
+  pub cause : changing issuer order ≡ Err NoKey
+  pub last : text ≡ stop_text NoKey
+
+-- how a run stops once its configuration gave an issuer
+abbrev pub StopsToChange : PinOrder → Seen → Stop → List ℕ → Type 0
+StopsToChange order seen NoKey text = HasNoKey order seen text
+StopsToChange order seen stop text = ⊥
+
+abbrev pub ways_to_change : PinOrder → Seen → Ways
+ways_to_change order seen = record {
+  IsDone = IsChanged order seen;
+  Stops = λ stop text. StopsAtConfig order.config seen stop text ⊎ StopsToChange order seen stop text;
+  IsDue = IsChanged order seen;
+}
+
+-- ---- the command
+
+-- the desk tells of an issuer that has the card and the key, and no count rose
+pub record ChangesInOrder (order : PinOrder) (seen : Seen) : Type 0 where
+  pub content : List ℕ
+  pub issuer : Setup
+  pub line : List ℕ
+  pub config_held : seen.desk.tells order.config ≡ Some (Some content)
+  pub says : configured content ≡ Ok issuer
+  pub has_key : changing issuer order ≡ Ok line
+  pub desk_stood : Rose seen.desk.faults_before seen.desk.faults_after → ⊥
+  pub config_stood : IsSomeAnd seen.config (λ input. 0 < input.faults) → ⊥
+  pub sink_stood : Rose seen.sink.faults_before seen.sink.faults_after → ⊥
 
 -- the configuration gave no issuer: it is broken, it failed, or no memory was left
 abbrev pub IsUnread : ℕ → Type 0
 IsUnread status = (status ≡ 2) ⊎ ((status ≡ 3) ⊎ (status ≡ 7))
 
 -- the configuration gave an issuer, and the status is 0 or 12, as it has the card and the key or not
-abbrev pub IsAnswered : ℕ → Seen → PinOrder → Type 0
-IsAnswered status seen order =
+abbrev pub IsAnswered : PinOrder → ℕ → Seen → Type 0
+IsAnswered order status seen =
     (issuer : Setup) × SaysIssuer seen order.config issuer × (status ≡ change_status (changing issuer order))
 
--- where the words are the command to change a PIN, the status is 2, 3 or 7 without an issuer, and then 0 or 12 by the
--- issuer; or 4, and the sink failed
-abbrev pub Pins : ℕ → Seen → Type 0
-Pins status seen = (order : PinOrder) → IsPin seen.words order
-    → IsUnread status
-    ⊎ (IsAnswered status seen order ⊎ ((status ≡ 4) × Rose seen.sink.faults_before seen.sink.faults_after))
+-- the run ended in one of its ways: the status is 2, 3 or 7 without an issuer, and then 0 or 12 by the issuer; or 4, and
+-- the sink failed. Where all was in order, the change is written, or no memory was left
+pub record Changes (order : PinOrder) (status : ℕ) (seen : Seen) : Type 0 where
+  pub runs : Runs (ways_to_change order seen) (ChangesInOrder order seen) status seen
+  pub status_is : IsUnread status
+      ⊎ (IsAnswered order status seen ⊎ ((status ≡ 4) × Rose seen.sink.faults_before seen.sink.faults_after))
+
+-- if the words are the command to change a PIN, with this order, the run ends in one of its ways
+abbrev pub RunsPin : List (List ℕ) → ℕ → Seen → Type 0
+RunsPin words status seen = (order : PinOrder) → IsPin words order → Changes order status seen

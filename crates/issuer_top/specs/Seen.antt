@@ -1,4 +1,4 @@
--- What a run sees of the outside: its words, the desk, the inputs and the journals that it opened, and the sink.
+-- What a run sees of the outside: the desk, the inputs and the journals that it opened, and the sink.
 use Rattle.std.specs.Prelude.{◌≡◌, ℕ, List, Option}
 use Rattle.std.specs.Option.{option_map}
 use Rattle.issuer_base.specs.Desk.{FailedCall}
@@ -36,7 +36,6 @@ pub record SeenSink : Type 0 where
 
 -- all that a run sees; an input is there where it was opened, and the journals are those that were opened
 pub record Seen : Type 0 where
-  pub words : List (List ℕ)
   pub desk : SeenDesk
   pub config : Option SeenInput
   pub requests : Option SeenInput
@@ -71,16 +70,12 @@ sink_seen sink before after = record {
   faults_after = sink.faults after;
 }
 
--- all that was seen, in the order of the fields
-abbrev pub seen_of : List (List ℕ) → SeenDesk → Option SeenInput → Option SeenInput → SeenJournals → SeenSink → Seen
-seen_of words desk config requests journals sink =
-    record { words = words; desk = desk; config = config; requests = requests; journals = journals; sink = sink }
-
--- all that was seen of the words, of the desk that was given and of what was given back, and of the sink before and
--- after
-abbrev pub seen_by : {D I J W : Type 0} → Desk D I J → Source I → Store J → Sink W → List (List ℕ) → D → Ended D I J → W
-    → W → Seen
-seen_by desk source store sink words given ended before after =
-    seen_of words (desk_seen desk given ended.desk) (option_map (input_seen source) ended.config)
-    (option_map (input_seen source) ended.requests) (journals_seen store ended.olds.items ended.stores.items)
-    (sink_seen sink before after)
+-- all that was seen of the desk that was given and of what was given back, and of the sink before and after
+abbrev pub seen_by : {D I J W : Type 0} → Desk D I J → Source I → Store J → Sink W → D → Ended D I J → W → W → Seen
+seen_by desk source store sink given ended before after = record {
+  desk = desk_seen desk given ended.desk;
+  config = option_map (input_seen source) ended.config;
+  requests = option_map (input_seen source) ended.requests;
+  journals = journals_seen store ended.olds.items ended.stores.items;
+  sink = sink_seen sink before after;
+}

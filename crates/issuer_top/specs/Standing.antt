@@ -5,12 +5,16 @@ use Rattle.issuer_base.specs.Stores.{MayLeave, Moment}
 use Rattle.issuer_base.specs.Tells.{Tells}
 use Rattle.issuer_base.specs.declared.entry.Entry.{Entry}
 use Rattle.answer_text.specs.StopText.{stop_text}
+use Rattle.answer_text.specs.declared.stop_line.Stop.{Stop}
 use Rattle.answer_text.specs.declared.stop_line.Stop.TheVariants.{ReadFault as ReadStop, StoreFault as StoreStop, NoMemory}
 use Rattle.answer_text.specs.declared.stop_line.Stop.TheVariants.{TooLong as LongStop, BadFeed as FeedStop}
 use Rattle.issuer_base.specs.CardNames.{CardName}
 use Rattle.card_history.specs.OneReply.{IsOncePerCounter}
 use Rattle.card_history.specs.ScriptOrder.{AreInOrder}
 use Rattle.issuer_setup.specs.IssuerSetup.{Setup}
+use Rattle.line_reader.specs.Lines.{lines}
+use Rattle.line_reader.specs.Reading.{IsWithinLimits}
+use Rattle.standby_node.specs.Streams.{StopsBadly}
 use Rattle.journal_rec.specs.Record.{IsRecord}
 use Rattle.journal_rec.specs.RecordText.{journal_text, text_of}
 use Rattle.journal_store.specs.Images.{IsImage}
@@ -33,16 +37,12 @@ use Rattle.desk_host.specs.Left.{CrashSince, StaysAsOpened}
 use Rattle.desk_host.specs.SeenStores.{Logged, SeenStore, SeenJournals}
 use Rattle.desk_host.specs.Worlds.{HaveSafeWorlds}
 use Rattle.issuer_top.specs.Opened.{OpenedConfigOnly, OpenedBothInputs, FailsToOpen}
-use Rattle.issuer_top.specs.PinChanges.{SaysIssuer}
+use Rattle.issuer_top.specs.InOrder.{IsInOrder}
+use Rattle.issuer_top.specs.Opening.{SaysIssuer}
 use Rattle.issuer_top.specs.ReadAgain.{StayLoaded, FailOnlyAt, none_fails}
 use Rattle.issuer_top.specs.Seen.{Seen, SeenInput}
-
--- the words are the command to take a feed, with this feed and this name of journals, and the configuration says this
--- issuer
-pub record IsStandingBy (seen : Seen) (feed journal : List ℕ) (issuer : Setup) : Type 0 where
-  pub config : List ℕ
-  pub command : IsStandby seen.words config feed journal
-  pub said : SaysIssuer seen config issuer
+use Rattle.issuer_top.specs.Stops.{StopsBefore}
+use Rattle.issuer_top.specs.Ways.{Ways, Runs}
 
 -- ---- the journals
 
@@ -106,11 +106,9 @@ pub record WereJournals (issuer : Setup) (prefix : List ℕ) (logs : Logged) (fi
       was
 
 -- the journals were loaded for a standby, and are as loading left them; no store failed
-pub record LoadsToStandBy (seen : Seen) : Type 0 where
-  pub feed : List ℕ
-  pub journal : List ℕ
+pub record LoadsToStandBy (config journal : List ℕ) (seen : Seen) : Type 0 where
   pub issuer : Setup
-  pub set_up : IsStandingBy seen feed journal issuer
+  pub said : SaysIssuer seen config issuer
   pub stay : StayLoaded issuer journal seen.desk.logs seen.journals
   pub counted : FailOnlyAt seen.journals.stores none_fails
 
@@ -127,11 +125,9 @@ pub record AreLawfulReplicas (issuer : Setup) (histories : List (List Entry)) : 
   pub worlds : HaveSafeWorlds issuer histories
 
 -- the feed was taken, up to this end: what it makes of the histories that were loaded is what the journals hold
-pub record StandsBy (followed : Followed) (seen : Seen) : Type 0 where
-  pub feed : List ℕ
-  pub journal : List ℕ
+pub record StandsBy (followed : Followed) (config feed journal : List ℕ) (seen : Seen) : Type 0 where
   pub issuer : Setup
-  pub set_up : IsStandingBy seen feed journal issuer
+  pub said : SaysIssuer seen config issuer
   pub opened : OpenedBothInputs seen
   pub input : SeenInput
   pub input_is : seen.requests ≡ Some input
@@ -151,39 +147,75 @@ pub record StandsBy (followed : Followed) (seen : Seen) : Type 0 where
 -- ---- the ways to end
 
 -- status 0: the feed was read to its end, and the shards' numbers of records were written; at status 4 they were due
-pub record HasStoodBy (followed : Followed) (seen : Seen) (text : List ℕ) : Type 0 where
-  pub stands : StandsBy followed seen
+pub record HasStoodBy (followed : Followed) (config feed journal : List ℕ) (seen : Seen) (text : List ℕ)
+    : Type 0 where
+  pub stands : StandsBy followed config feed journal seen
   pub text_is : text ≡ counts_text stands.histories
 
 -- status 3: the desk failed at the feed's name, once the journals were loaded
-pub record CannotOpenFeed (seen : Seen) (text : List ℕ) : Type 0 where
-  pub loaded : LoadsToStandBy seen
-  pub fails : FailsToOpen seen loaded.feed true
-  pub told : text ≡ stop_text ReadStop
+pub record CannotOpenFeed (config feed journal : List ℕ) (seen : Seen) (text : List ℕ) : Type 0 where
+  pub loaded : LoadsToStandBy config journal seen
+  pub fails : FailsToOpen seen feed true
+  pub last : text ≡ stop_text ReadStop
 
 -- status 3: the feed failed while it was read, and the whole lines of what was read were taken
-pub record CannotReadFeed (seen : Seen) (text : List ℕ) : Type 0 where
-  pub stands : StandsBy ReadFault seen
+pub record CannotReadFeed (config feed journal : List ℕ) (seen : Seen) (text : List ℕ) : Type 0 where
+  pub stands : StandsBy ReadFault config feed journal seen
   pub failed : 0 < stands.input.faults
   pub last : text ≡ stop_text ReadStop
 
 -- status 5: the store of this shard failed at its next record; the lines before that record's were taken
-pub record CannotTake (shard : ℕ) (seen : Seen) (text : List ℕ) : Type 0 where
-  pub stands : StandsBy (StoreFault shard) seen
+pub record CannotTake (shard : ℕ) (config feed journal : List ℕ) (seen : Seen) (text : List ℕ) : Type 0 where
+  pub stands : StandsBy (StoreFault shard) config feed journal seen
   pub last : text ≡ stop_text (StoreStop shard)
 
 -- status 7: no memory was left for a standby, once the journals were loaded and before the feed was opened
-pub record CannotStandBy (seen : Seen) (text : List ℕ) : Type 0 where
-  pub loaded : LoadsToStandBy seen
+pub record CannotStandBy (config journal : List ℕ) (seen : Seen) (text : List ℕ) : Type 0 where
+  pub loaded : LoadsToStandBy config journal seen
   pub opened : OpenedConfigOnly seen
-  pub told : text ≡ stop_text NoMemory
+  pub last : text ≡ stop_text NoMemory
 
 -- status 8: a byte of the feed past a limit was read, in the line of this number, and the lines before were taken
-pub record IsFeedTooLong (number : ℕ) (seen : Seen) (text : List ℕ) : Type 0 where
-  pub stands : StandsBy (TooLong number) seen
+pub record IsFeedTooLong (number : ℕ) (config feed journal : List ℕ) (seen : Seen) (text : List ℕ) : Type 0 where
+  pub stands : StandsBy (TooLong number) config feed journal seen
   pub last : text ≡ stop_text (LongStop number)
 
 -- status 11: the line of this number is the first bad one of the feed, and the lines before were taken
-pub record HasBadLine (number : ℕ) (seen : Seen) (text : List ℕ) : Type 0 where
-  pub stands : StandsBy (BadFeed number) seen
+pub record HasBadLine (number : ℕ) (config feed journal : List ℕ) (seen : Seen) (text : List ℕ) : Type 0 where
+  pub stands : StandsBy (BadFeed number) config feed journal seen
   pub last : text ≡ stop_text (FeedStop number)
+
+-- how a run stops once its journals were loaded
+abbrev pub StopsToStandBy : List ℕ → List ℕ → List ℕ → Seen → Stop → List ℕ → Type 0
+StopsToStandBy config feed journal seen ReadStop text =
+    CannotOpenFeed config feed journal seen text ⊎ CannotReadFeed config feed journal seen text
+StopsToStandBy config feed journal seen (StoreStop shard) text = CannotTake shard config feed journal seen text
+StopsToStandBy config feed journal seen NoMemory text = CannotStandBy config journal seen text
+StopsToStandBy config feed journal seen (LongStop number) text = IsFeedTooLong number config feed journal seen text
+StopsToStandBy config feed journal seen (FeedStop number) text = HasBadLine number config feed journal seen text
+StopsToStandBy config feed journal seen stop text = ⊥
+
+-- what was due at status 4 are the shards' numbers of records
+abbrev pub ways_to_stand_by : List ℕ → List ℕ → List ℕ → Seen → Ways
+ways_to_stand_by config feed journal seen = record {
+  IsDone = HasStoodBy FollowsAll config feed journal seen;
+  Stops = λ stop text. StopsBefore config journal seen stop text ⊎ StopsToStandBy config feed journal seen stop text;
+  IsDue = HasStoodBy WriteFault config feed journal seen;
+}
+
+-- ---- the command
+
+-- all is in order, and the desk tells of a feed within the limits that has no bad line
+pub record StandsInOrder (config feed journal : List ℕ) (seen : Seen) : Type 0 where
+  pub in_order : IsInOrder config journal seen
+  pub file : List ℕ
+  pub feed_held : seen.desk.tells feed ≡ Some (Some file)
+  pub within : IsWithinLimits (length (lines file)) (length file)
+  pub none_bad : (first : List ShardBook) (number : ℕ) (histories : List (List Entry))
+      → WereJournals in_order.issuer journal seen.desk.logs first
+      → StopsBadly in_order.issuer (histories_of first) file number histories → ⊥
+
+-- if the words are the command to take a feed, with these names, the run ends in one of its ways
+abbrev pub RunsStandby : List (List ℕ) → ℕ → Seen → Type 0
+RunsStandby words status seen = (config feed journal : List ℕ) → IsStandby words config feed journal
+    → Runs (ways_to_stand_by config feed journal seen) (StandsInOrder config feed journal seen) status seen

@@ -44,6 +44,13 @@ pub record GivesStop (held_before held_after : Option (List ℕ)) (faults_before
   pub stops : StopsBy held_before held_after stop ending
   pub count : CountsFaults faults_before faults_after (is_broken ending)
 
+-- the sink was given a text: it took all of it, or a front and failed
+pub record GivesText (held_before held_after : Option (List ℕ)) (faults_before faults_after : ℕ) (text : List ℕ)
+    (ending : Ending) : Type 0 where
+  pub written : ((ending ≡ Done) × Appends held_before held_after text)
+      ⊎ ((ending ≡ WriteFault) × AppendsFront held_before held_after text)
+  pub count : CountsFaults faults_before faults_after (is_broken ending)
+
 -- the sink was given nothing, and the run ends so
 pub record GivesNothing (held_before held_after : Option (List ℕ)) (faults_before faults_after : ℕ)
     (ended ending : Ending) : Type 0 where

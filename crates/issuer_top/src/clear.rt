@@ -1,15 +1,15 @@
 //! A clearing check: lines of transaction certificates, compared with the records of the journals.
 ghost use Rattle.std.specs.Prelude.{◌≡◌, ℕ, List, [], IfOk, length};
 ghost use Rattle.issuer_setup.specs.IssuerSetup.{Setup};
-ghost use Rattle.command_line.specs.Command.{IsClear};
 ghost use Rattle.line_serving.specs.Clearing.{IsNew};
 ghost use Rattle.desk_host.specs.Configuration.{HasSoundParts};
 ghost use Rattle.desk_host.specs.SeenStores.{journals_seen};
 ghost use Rattle.line_serving.specs.Loaded.{AreLoadedFrom};
-ghost use Rattle.issuer_top.specs.Clearing.{FilesBooks, IsClearing};
-ghost use Rattle.issuer_top.specs.Endings.{Ends};
+ghost use Rattle.issuer_top.specs.Clearing.{FilesBooks, ways_to_clear};
+ghost use Rattle.issuer_top.specs.Opening.{SaysIssuer};
 ghost use Rattle.issuer_top.specs.ReadAgain.{FailOnlyAt, StayLoaded, none_fails, stop_of_reading};
 ghost use Rattle.issuer_top.specs.Seen.{IsSameDesk, seen_by};
+ghost use Rattle.issuer_top.specs.Ways.{Ends};
 
 use crate::ended::Ended;
 use crate::opening::{open_issuer, stop_of};
@@ -50,10 +50,9 @@ impl Check {
 impl<D: Desk> Run<D> {
     /// Reads the configuration, and checks the lines of the clearing file against the journals.
     pub fn clear<W: Sink>(mut self, names: ClearWords<'_>, out: &mut W) -> Ended<D>
-        ensures { (words : List (List ℕ))
-            → IsClear words names.entry.config.now names.entry.clearing.now names.entry.journal.now
-            → Ends result.status
-            (seen_by D.Desk D.Input.Source D.Journal.Store W.Sink words self.desk result out.old out.new) }
+        ensures { let seen = seen_by D.Desk D.Input.Source D.Journal.Store W.Sink self.desk result out.old out.new in
+            Ends (ways_to_clear names.entry.config.now names.entry.clearing.now names.entry.journal.now seen)
+            result.status seen }
     {
         match open_issuer(self.alloc, &mut self.desk, names.config) {
             Ok((issuer, config)) => self.load_to_clear(issuer, config, names, out),
@@ -70,11 +69,12 @@ impl<D: Desk> Run<D> {
         out: &mut W,
     ) -> Ended<D>
         requires { HasSoundParts issuer }
-        ensures { (words : List (List ℕ)) (given : D)
-            → let seen = seen_by D.Desk D.Input.Source D.Journal.Store W.Sink words given result out.old out.new in
-            IsClearing seen names.entry.clearing.now names.entry.journal.now issuer
+        ensures { (given : D)
+            → let seen = seen_by D.Desk D.Input.Source D.Journal.Store W.Sink given result out.old out.new in
+            SaysIssuer seen names.entry.config.now issuer
             → IsSameDesk D.Desk given self.desk → D.logs self.desk ≡ D.logs given
-            → Ends result.status seen }
+            → Ends (ways_to_clear names.entry.config.now names.entry.clearing.now names.entry.journal.now seen)
+            result.status seen }
     {
         let alloc = self.alloc;
         issuer.keep_all();
@@ -95,12 +95,13 @@ impl<D: Desk> Run<D> {
         out: &mut W,
     ) -> Ended<D>
         requires { length journals.stores.items ≡ issuer.shards }
-        ensures { (words : List (List ℕ)) (given : D) (journal : List ℕ)
-            → let seen = seen_by D.Desk D.Input.Source D.Journal.Store W.Sink words given result out.old out.new in
-            IsClearing seen name.now journal issuer
+        ensures { (given : D) (config_name journal : List ℕ)
+            → let seen = seen_by D.Desk D.Input.Source D.Journal.Store W.Sink given result out.old out.new in
+            SaysIssuer seen config_name issuer
             → AreLoadedFrom issuer journal (D.logs given)
             (journals_seen D.Journal.Store journals.olds.items journals.stores.items)
-            → IsSameDesk D.Desk given self.desk → Ends result.status seen }
+            → IsSameDesk D.Desk given self.desk
+            → Ends (ways_to_clear config_name name.now journal seen) result.status seen }
     {
         let Journals { olds, mut stores } = journals;
         let mut check = match Check::new(self.alloc, &issuer) {
@@ -131,15 +132,16 @@ impl<D: Desk> Run<D> {
         out: &mut W,
     ) -> Ended<D>
         requires { IsNew check.judge }
-        ensures { (words : List (List ℕ)) (given : D) (journal : List ℕ)
-            → let seen = seen_by D.Desk D.Input.Source D.Journal.Store W.Sink words given result out.old out.new in
-            IsClearing seen name.now journal issuer
+        ensures { (given : D) (config_name journal : List ℕ)
+            → let seen = seen_by D.Desk D.Input.Source D.Journal.Store W.Sink given result out.old out.new in
+            SaysIssuer seen config_name issuer
             → (stay : StayLoaded issuer journal (D.logs given)
             (journals_seen D.Journal.Store journals.olds.items journals.stores.items))
             → FailOnlyAt (journals_seen D.Journal.Store journals.olds.items journals.stores.items).stores none_fails
             → FilesBooks issuer (journals_seen D.Journal.Store journals.olds.items journals.stores.items) stay.first
             check.book
-            → IsSameDesk D.Desk given self.desk → Ends result.status seen }
+            → IsSameDesk D.Desk given self.desk
+            → Ends (ways_to_clear config_name name.now journal seen) result.status seen }
     {
         let mut clearing = match self.desk.read(name) {
             Ok(clearing) => clearing,

@@ -1,16 +1,16 @@
 //! An export: the records of the journals, as the lines of a feed.
 ghost use Rattle.std.specs.Prelude.{◌≡◌, ℕ, List, length};
 ghost use Rattle.issuer_setup.specs.IssuerSetup.{Setup};
-ghost use Rattle.command_line.specs.Command.{IsExport};
 ghost use Rattle.desk_host.specs.Configuration.{HasSoundParts};
 ghost use Rattle.desk_host.specs.SeenStores.{journals_seen};
 ghost use Rattle.journal_reader.specs.Filing.{fault_of};
 ghost use Rattle.line_serving.specs.Loaded.{AreLoadedFrom};
-ghost use Rattle.issuer_top.specs.Endings.{Ends};
-ghost use Rattle.issuer_top.specs.Exporting.{IsExporting};
+ghost use Rattle.issuer_top.specs.Exporting.{ways_to_export};
+ghost use Rattle.issuer_top.specs.Opening.{SaysIssuer};
 ghost use Rattle.issuer_top.specs.ReadAgain.{stop_of_reading};
 ghost use Rattle.issuer_top.specs.Seen.{IsSameDesk, seen_by};
 ghost use Rattle.issuer_top.specs.Stopping.{EndsExporting};
+ghost use Rattle.issuer_top.specs.Ways.{Ends};
 
 use crate::ended::Ended;
 use crate::ending::Ending;
@@ -28,9 +28,8 @@ use line_serving::load_journals;
 impl<D: Desk> Run<D> {
     /// Reads the configuration, and writes the feed of the journals.
     pub fn export<W: Sink>(mut self, names: ExportWords<'_>, out: &mut W) -> Ended<D>
-        ensures { (words : List (List ℕ)) → IsExport words names.entry.config.now names.entry.journal.now
-            → Ends result.status
-            (seen_by D.Desk D.Input.Source D.Journal.Store W.Sink words self.desk result out.old out.new) }
+        ensures { let seen = seen_by D.Desk D.Input.Source D.Journal.Store W.Sink self.desk result out.old out.new in
+            Ends (ways_to_export names.entry.config.now names.entry.journal.now seen) result.status seen }
     {
         match open_issuer(self.alloc, &mut self.desk, names.config) {
             Ok((issuer, config)) => self.load_to_export(issuer, config, names, out),
@@ -47,11 +46,11 @@ impl<D: Desk> Run<D> {
         out: &mut W,
     ) -> Ended<D>
         requires { HasSoundParts issuer }
-        ensures { (words : List (List ℕ)) (given : D)
-            → let seen = seen_by D.Desk D.Input.Source D.Journal.Store W.Sink words given result out.old out.new in
-            IsExporting seen names.entry.journal.now issuer
+        ensures { (given : D)
+            → let seen = seen_by D.Desk D.Input.Source D.Journal.Store W.Sink given result out.old out.new in
+            SaysIssuer seen names.entry.config.now issuer
             → IsSameDesk D.Desk given self.desk → D.logs self.desk ≡ D.logs given
-            → Ends result.status seen }
+            → Ends (ways_to_export names.entry.config.now names.entry.journal.now seen) result.status seen }
     {
         let alloc = self.alloc;
         issuer.keep_all();
@@ -70,12 +69,12 @@ impl<D: Desk> Run<D> {
         out: &mut W,
     ) -> Ended<D>
         requires { length journals.stores.items ≡ issuer.shards }
-        ensures { (words : List (List ℕ)) (given : D) (journal : List ℕ)
-            → let seen = seen_by D.Desk D.Input.Source D.Journal.Store W.Sink words given result out.old out.new in
-            IsExporting seen journal issuer
+        ensures { (given : D) (name journal : List ℕ)
+            → let seen = seen_by D.Desk D.Input.Source D.Journal.Store W.Sink given result out.old out.new in
+            SaysIssuer seen name issuer
             → AreLoadedFrom issuer journal (D.logs given)
             (journals_seen D.Journal.Store journals.olds.items journals.stores.items)
-            → IsSameDesk D.Desk given self.desk → Ends result.status seen }
+            → IsSameDesk D.Desk given self.desk → Ends (ways_to_export name journal seen) result.status seen }
     {
         let Journals { olds, mut stores } = journals;
         let mut exporter = match Exporter::new(self.alloc) {

@@ -1,12 +1,11 @@
 //! A DOL that is filled from data objects.
-ghost use Rattle.std.specs.Prelude.{◌≡◌, ◌≤◌, ℕ, List, length, IfOk};
+ghost use Rattle.std.specs.Prelude.{◌≡◌, ◌≤◌, length, IfOk};
 ghost use Rattle.std.specs.Result.{result_map_both};
 ghost use Rattle.answer_text.specs.AnswerText.{bytes_text};
-ghost use Rattle.command_line.specs.Command.{IsFill};
-ghost use Rattle.issuer_top.specs.Endings.{Ends};
-ghost use Rattle.issuer_top.specs.Filling.{filling, FillsBy};
-ghost use Rattle.issuer_top.specs.Played.{GivesText};
+ghost use Rattle.issuer_top.specs.Filling.{filling, ways_to_fill, FillsBy};
 ghost use Rattle.issuer_top.specs.Seen.{seen_by};
+ghost use Rattle.issuer_top.specs.Stopping.{GivesText};
+ghost use Rattle.issuer_top.specs.Ways.{Ends};
 ghost use Rattle.terminal_kernel.specs.declared.limits.TheConstants.{MAX_FILLED_BYTES};
 
 use crate::ended::Ended;
@@ -23,9 +22,8 @@ use terminal_kernel::{BadData, BadDol, MAX_FILLED_BYTES, fill, read_data, read_d
 impl<D: Desk> Run<D> {
     /// Fills a DOL, and writes the line of its bytes.
     pub fn fill<W: Sink>(self, texts: &DolTexts, out: &mut W) -> Ended<D>
-        ensures { (words : List (List ℕ)) → IsFill words texts.now.dol.items texts.now.data.items
-            → Ends result.status
-            (seen_by D.Desk D.Input.Source D.Journal.Store W.Sink words self.desk result out.old out.new) }
+        ensures { let seen = seen_by D.Desk D.Input.Source D.Journal.Store W.Sink self.desk result out.old out.new in
+            Ends (ways_to_fill texts.now.dol.items texts.now.data.items seen) result.status seen }
     {
         let ending = fill_dol(texts, out);
         let journals = Journals::none(self.alloc);

@@ -4,10 +4,10 @@ ghost use Rattle.answer_text.specs.QueueText.{queue_text};
 ghost use Rattle.command_line.specs.Command.{IsPin};
 ghost use Rattle.command_line.specs.Pairs.{order_of};
 ghost use Rattle.secure_msg.specs.PinChange.{pin_command};
-ghost use Rattle.issuer_top.specs.Endings.{Ends};
-ghost use Rattle.issuer_top.specs.PinChanges.{changing, smc_for, ChangesBy};
-ghost use Rattle.issuer_top.specs.Played.{GivesText};
+ghost use Rattle.issuer_top.specs.PinChanges.{changing, smc_for, ways_to_change, ChangesBy};
 ghost use Rattle.issuer_top.specs.Seen.{seen_by};
+ghost use Rattle.issuer_top.specs.Stopping.{GivesText};
+ghost use Rattle.issuer_top.specs.Ways.{Ends};
 
 use crate::ended::Ended;
 use crate::ending::{Ending, end_writing};
@@ -28,8 +28,8 @@ impl<D: Desk> Run<D> {
     /// Reads the configuration, and writes the line that queues the change of the PIN.
     pub fn change_pin<W: Sink>(mut self, order: PinWords<'_>, out: &mut W) -> Ended<D>
         ensures { (words : List (List ℕ)) → IsPin words (order_of order.entry)
-            → Ends result.status
-            (seen_by D.Desk D.Input.Source D.Journal.Store W.Sink words self.desk result out.old out.new) }
+            → let seen = seen_by D.Desk D.Input.Source D.Journal.Store W.Sink self.desk result out.old out.new in
+            Ends (ways_to_change (order_of order.entry) seen) result.status seen }
     {
         let alloc = self.alloc;
         match open_issuer(alloc, &mut self.desk, order.config) {

@@ -1,9 +1,9 @@
 //! A world that is played, and the text of what it came to.
-ghost use Rattle.std.specs.Prelude.{ℕ, List};
-ghost use Rattle.command_line.specs.Command.{IsSize, IsWorld};
-ghost use Rattle.issuer_top.specs.Endings.{Ends};
-ghost use Rattle.issuer_top.specs.Played.{GivesText, PlaysBy};
+ghost use Rattle.command_line.specs.Command.{IsSize};
+ghost use Rattle.issuer_top.specs.Played.{ways_to_play, PlaysBy};
 ghost use Rattle.issuer_top.specs.Seen.{seen_by};
+ghost use Rattle.issuer_top.specs.Stopping.{GivesText};
+ghost use Rattle.issuer_top.specs.Ways.{Ends};
 ghost use Rattle.world_play.specs.SummaryText.{summary_text};
 
 use crate::ended::Ended;
@@ -22,9 +22,8 @@ impl<D: Desk> Run<D> {
     /// Plays a world of this size, and writes the text of what it came to.
     pub fn play<W: Sink>(self, size: WorldSize, out: &mut W) -> Ended<D>
         requires { IsSize size.cards size.steps }
-        ensures { (words : List (List ℕ)) → IsWorld words size.cards size.steps size.seed
-            → Ends result.status
-            (seen_by D.Desk D.Input.Source D.Journal.Store W.Sink words self.desk result out.old out.new) }
+        ensures { let seen = seen_by D.Desk D.Input.Source D.Journal.Store W.Sink self.desk result out.old out.new in
+            Ends (ways_to_play size.cards size.steps size.seed seen) result.status seen }
     {
         let alloc = self.alloc;
         let ending = play_world(alloc, size, out);

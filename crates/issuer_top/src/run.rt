@@ -1,13 +1,14 @@
 //! A run: what it gives back, and how it stops.
 ghost use Rattle.std.specs.Prelude.{◌≡◌, ℕ, List, None, Some};
 ghost use Rattle.std.specs.Option.{option_map};
-ghost use Rattle.command_line.specs.Command.{IsNoCommand};
 ghost use Rattle.desk_host.specs.Loading.{stop_of_load};
-ghost use Rattle.issuer_top.specs.Endings.{Ends, ReadsConfig};
 ghost use Rattle.issuer_top.specs.Opening.{OpensNoIssuer};
+ghost use Rattle.issuer_top.specs.Refusing.{ways_to_refuse};
 ghost use Rattle.issuer_top.specs.Seen.{desk_seen, input_seen, seen_by};
 ghost use Rattle.issuer_top.specs.Status.{status_of};
 ghost use Rattle.issuer_top.specs.Stopping.{GivesStop};
+ghost use Rattle.issuer_top.specs.Stops.{ways_to_give_no_issuer};
+ghost use Rattle.issuer_top.specs.Ways.{Ends};
 
 use crate::ended::Ended;
 use crate::ending::{Ending, status_of};
@@ -108,11 +109,11 @@ impl<D: Desk> Run<D> {
 
     /// Stops the run whose configuration gave no issuer.
     pub fn not_opened<W: Sink>(self, none: NotOpened<D::Input>, out: &mut W) -> Ended<D>
-        ensures { (words : List (List ℕ)) (given : D) (name : List ℕ) → ReadsConfig words name
-            → OpensNoIssuer (desk_seen D.Desk given self.desk) name
+        ensures { (given : D) (name : List ℕ)
+            → let seen = seen_by D.Desk D.Input.Source D.Journal.Store W.Sink given result out.old out.new in
+            OpensNoIssuer (desk_seen D.Desk given self.desk) name
             (option_map (input_seen D.Input.Source) none.config) none.cause
-            → Ends result.status
-            (seen_by D.Desk D.Input.Source D.Journal.Store W.Sink words given result out.old out.new) }
+            → Ends (ways_to_give_no_issuer name seen) result.status seen }
     {
         let NotOpened { cause, config } = none;
         let journals = Journals::none(self.alloc);
@@ -121,9 +122,8 @@ impl<D: Desk> Run<D> {
 
     /// Stops the run whose words are no command.
     pub fn refuse<W: Sink>(self, out: &mut W) -> Ended<D>
-        ensures { (words : List (List ℕ)) → IsNoCommand words
-            → Ends result.status
-            (seen_by D.Desk D.Input.Source D.Journal.Store W.Sink words self.desk result out.old out.new) }
+        ensures { let seen = seen_by D.Desk D.Input.Source D.Journal.Store W.Sink self.desk result out.old out.new in
+            Ends (ways_to_refuse seen) result.status seen }
     {
         let journals = Journals::none(self.alloc);
         self.stop(Stop::Usage, None, journals, out)

@@ -1,11 +1,12 @@
 //! All cards of the journals, shown.
-ghost use Rattle.std.specs.Prelude.{◌≡◌, ◌<◌, ℕ, List, None};
+ghost use Rattle.std.specs.Prelude.{◌≡◌, ◌<◌, ℕ, List};
 ghost use Rattle.issuer_setup.specs.IssuerSetup.{Setup};
 ghost use Rattle.desk_host.specs.Configuration.{HasSoundParts};
 ghost use Rattle.desk_host.specs.Journals.{IsReadySolo};
-ghost use Rattle.command_line.specs.Command.{IsShow};
-ghost use Rattle.issuer_top.specs.Endings.{IsSetUp, Ends};
+ghost use Rattle.issuer_top.specs.Opening.{SaysIssuer};
 ghost use Rattle.issuer_top.specs.Seen.{IsSameDesk, seen_by};
+ghost use Rattle.issuer_top.specs.Showing.{ways_to_show};
+ghost use Rattle.issuer_top.specs.Ways.{Ends};
 
 use crate::ended::Ended;
 use crate::ending::end_writing;
@@ -20,9 +21,8 @@ use one_caller::Solo;
 impl<D: Desk> Run<D> {
     /// Reads the configuration, loads the journals, and shows all cards.
     pub fn show<W: Sink>(mut self, names: ShowWords<'_>, out: &mut W) -> Ended<D>
-        ensures { (words : List (List ℕ)) → IsShow words names.entry.config.now names.entry.journal.now
-            → Ends result.status
-            (seen_by D.Desk D.Input.Source D.Journal.Store W.Sink words self.desk result out.old out.new) }
+        ensures { let seen = seen_by D.Desk D.Input.Source D.Journal.Store W.Sink self.desk result out.old out.new in
+            Ends (ways_to_show names.entry.config.now names.entry.journal.now seen) result.status seen }
     {
         match open_issuer(self.alloc, &mut self.desk, names.config) {
             Ok((issuer, config)) => self.show_issuer(issuer, config, names.journal, out),
@@ -38,11 +38,11 @@ impl<D: Desk> Run<D> {
         journal: &str,
         out: &mut W,
     ) -> Ended<D>
-        ensures { (words : List (List ℕ)) (given : D)
-            → let seen = seen_by D.Desk D.Input.Source D.Journal.Store W.Sink words given result out.old out.new in
-            IsSetUp seen None journal.now issuer
-            → HasSoundParts issuer → IsSameDesk D.Desk given self.desk
-            → D.logs self.desk ≡ D.logs given → Ends result.status seen }
+        ensures { (given : D) (name : List ℕ)
+            → let seen = seen_by D.Desk D.Input.Source D.Journal.Store W.Sink given result out.old out.new in
+            SaysIssuer seen name issuer
+            → HasSoundParts issuer → IsSameDesk D.Desk given self.desk → D.logs self.desk ≡ D.logs given
+            → Ends (ways_to_show name journal.now seen) result.status seen }
     {
         match load_alone(self.alloc, &mut self.desk, journal, issuer) {
             Ok(loaded) => self.show_cards(loaded, config, out),
@@ -58,11 +58,11 @@ impl<D: Desk> Run<D> {
         out: &mut W,
     ) -> Ended<D>
         requires { 0 < loaded.host.issuer.shards }
-        ensures { (words : List (List ℕ)) (given : D) (journal : List ℕ) (issuer : Setup)
-            → let seen = seen_by D.Desk D.Input.Source D.Journal.Store W.Sink words given result out.old out.new in
-            IsSetUp seen None journal issuer
+        ensures { (given : D) (name journal : List ℕ) (issuer : Setup)
+            → let seen = seen_by D.Desk D.Input.Source D.Journal.Store W.Sink given result out.old out.new in
+            SaysIssuer seen name issuer
             → IsReadySolo issuer journal (D.logs given) loaded.olds.items loaded.host → HasSoundParts issuer
-            → D.faults self.desk ≡ D.faults given → Ends result.status seen }
+            → D.faults self.desk ≡ D.faults given → Ends (ways_to_show name journal seen) result.status seen }
     {
         let Loaded { host, olds } = loaded;
         let ending = end_writing(show(&host, out));

@@ -1,14 +1,14 @@
 //! A standby: the records of a feed, taken into journals.
 ghost use Rattle.std.specs.Prelude.{◌≡◌, ◌≤◌, ℕ, List, [], length, vec_capacity};
 ghost use Rattle.issuer_setup.specs.IssuerSetup.{Setup};
-ghost use Rattle.command_line.specs.Command.{IsStandby};
 ghost use Rattle.desk_host.specs.Configuration.{HasSoundParts};
 ghost use Rattle.desk_host.specs.Journals.{IsReady};
 ghost use Rattle.host_loading.specs.Hosts.{AreShards};
-ghost use Rattle.issuer_top.specs.Endings.{Ends};
+ghost use Rattle.issuer_top.specs.Opening.{SaysIssuer};
 ghost use Rattle.issuer_top.specs.Seen.{IsSameDesk, seen_by};
-ghost use Rattle.issuer_top.specs.Standing.{IsStandingBy};
+ghost use Rattle.issuer_top.specs.Standing.{ways_to_stand_by};
 ghost use Rattle.issuer_top.specs.Stopping.{EndsFollowing};
+ghost use Rattle.issuer_top.specs.Ways.{Ends};
 
 use crate::ended::Ended;
 use crate::ending::Ending;
@@ -27,10 +27,9 @@ use standby_node::Standby;
 impl<D: Desk> Run<D> {
     /// Reads the configuration, and takes the feed into the journals.
     pub fn stand_by<W: Sink>(mut self, names: StandbyWords<'_>, out: &mut W) -> Ended<D>
-        ensures { (words : List (List ℕ))
-            → IsStandby words names.entry.config.now names.entry.feed.now names.entry.journal.now
-            → Ends result.status
-            (seen_by D.Desk D.Input.Source D.Journal.Store W.Sink words self.desk result out.old out.new) }
+        ensures { let seen = seen_by D.Desk D.Input.Source D.Journal.Store W.Sink self.desk result out.old out.new in
+            Ends (ways_to_stand_by names.entry.config.now names.entry.feed.now names.entry.journal.now seen)
+            result.status seen }
     {
         match open_issuer(self.alloc, &mut self.desk, names.config) {
             Ok((issuer, config)) => self.load_standby(issuer, config, names, out),
@@ -47,11 +46,12 @@ impl<D: Desk> Run<D> {
         out: &mut W,
     ) -> Ended<D>
         requires { HasSoundParts issuer }
-        ensures { (words : List (List ℕ)) (given : D)
-            → let seen = seen_by D.Desk D.Input.Source D.Journal.Store W.Sink words given result out.old out.new in
-            IsStandingBy seen names.entry.feed.now names.entry.journal.now issuer
+        ensures { (given : D)
+            → let seen = seen_by D.Desk D.Input.Source D.Journal.Store W.Sink given result out.old out.new in
+            SaysIssuer seen names.entry.config.now issuer
             → IsSameDesk D.Desk given self.desk → D.logs self.desk ≡ D.logs given
-            → Ends result.status seen }
+            → Ends (ways_to_stand_by names.entry.config.now names.entry.feed.now names.entry.journal.now seen)
+            result.status seen }
     {
         let alloc = self.alloc;
         issuer.keep_all();
@@ -74,11 +74,12 @@ impl<D: Desk> Run<D> {
         requires shards { AreShards issuer loaded.lists.shards.items }
         requires back { (loaded.lists.back.items ≡ [])
             × (length loaded.lists.shards.items ≤ vec_capacity loaded.lists.back) }
-        ensures { (words : List (List ℕ)) (given : D) (journal : List ℕ)
-            → let seen = seen_by D.Desk D.Input.Source D.Journal.Store W.Sink words given result out.old out.new in
-            IsStandingBy seen name.now journal issuer
+        ensures { (given : D) (config_name journal : List ℕ)
+            → let seen = seen_by D.Desk D.Input.Source D.Journal.Store W.Sink given result out.old out.new in
+            SaysIssuer seen config_name issuer
             → IsReady issuer journal (D.logs given) loaded.olds.items loaded.lists.shards.items
-            → IsSameDesk D.Desk given self.desk → Ends result.status seen }
+            → IsSameDesk D.Desk given self.desk
+            → Ends (ways_to_stand_by config_name name.now journal seen) result.status seen }
     {
         let LoadedShards {
             olds,

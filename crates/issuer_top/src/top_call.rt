@@ -1,14 +1,21 @@
 //! The top call.
-ghost use Rattle.std.specs.Prelude.{◌≡◌, ℕ, List, [], Some};
+ghost use Rattle.std.specs.Prelude.{◌≡◌, ℕ, List, []};
 ghost use Rattle.issuer_setup.specs.IssuerSetup.{Setup};
 ghost use Rattle.desk_host.specs.Configuration.{HasSoundParts};
 ghost use Rattle.line_serving.specs.Hosts.{callers_of, IsReady, HasServed, IsIdle};
-ghost use Rattle.command_line.specs.Command.{IsServe, IsGroup};
+ghost use Rattle.command_line.specs.Command.{IsGroup};
 ghost use Rattle.command_line.specs.Pairs.{request_file};
-ghost use Rattle.issuer_top.specs.Endings.{IsSetUp, Ends, Completes};
-ghost use Rattle.issuer_top.specs.Filling.{Fills};
-ghost use Rattle.issuer_top.specs.PinChanges.{Pins};
+ghost use Rattle.issuer_top.specs.Clearing.{RunsClear};
+ghost use Rattle.issuer_top.specs.Exporting.{RunsExport};
+ghost use Rattle.issuer_top.specs.Opening.{SaysIssuer};
+ghost use Rattle.issuer_top.specs.PinChanges.{RunsPin};
+ghost use Rattle.issuer_top.specs.Refusing.{RunsAlone};
 ghost use Rattle.issuer_top.specs.Seen.{IsSameDesk, seen_by};
+ghost use Rattle.issuer_top.specs.Serving.{RunsServe, ways_to_serve};
+ghost use Rattle.issuer_top.specs.Showing.{RunsShow};
+ghost use Rattle.issuer_top.specs.Standing.{RunsStandby};
+ghost use Rattle.issuer_top.specs.Tasks.{DoesTask};
+ghost use Rattle.issuer_top.specs.Ways.{Ends};
 
 use crate::ended::Ended;
 use crate::opening::{open_issuer, stop_of};
@@ -38,23 +45,24 @@ where
     W: Sink,
     G: Gate + Sync,
 
-    // What the status says of the words, the desk, all that was opened, and what was written.
-    ensures ends { Ends result.status (seen_by D.Desk D.Input.Source D.Journal.Store W.Sink words.now desk result
-        out.old out.new) }
+    // Where the words are the command to serve: what the status says of the desk, all that was opened, and what was
+    // written; and when all lines are answered. So for each command.
+    ensures serve { RunsServe words.now result.status
+        (seen_by D.Desk D.Input.Source D.Journal.Store W.Sink desk result out.old out.new) }
+    ensures show { RunsShow words.now result.status
+        (seen_by D.Desk D.Input.Source D.Journal.Store W.Sink desk result out.old out.new) }
+    ensures clear { RunsClear words.now result.status
+        (seen_by D.Desk D.Input.Source D.Journal.Store W.Sink desk result out.old out.new) }
+    ensures export { RunsExport words.now result.status
+        (seen_by D.Desk D.Input.Source D.Journal.Store W.Sink desk result out.old out.new) }
+    ensures standby { RunsStandby words.now result.status
+        (seen_by D.Desk D.Input.Source D.Journal.Store W.Sink desk result out.old out.new) }
+    ensures pin { RunsPin words.now result.status
+        (seen_by D.Desk D.Input.Source D.Journal.Store W.Sink desk result out.old out.new) }
 
-    // Where words, configuration, journals and request file are in order and no count rose, all is done, or memory was
-    // wanting.
-    ensures completes { Completes result.status
-        (seen_by D.Desk D.Input.Source D.Journal.Store W.Sink words.now desk result out.old out.new) }
-
-    // A DOL is filled, or its first error has its status, the DOL's before the data's; or the sink failed.
-    ensures fills { Fills result.status
-        (seen_by D.Desk D.Input.Source D.Journal.Store W.Sink words.now desk result out.old out.new) }
-
-    // A change of a PIN is written, or its card or its key is missing, looked for after the configuration; or the
-    // configuration gave no issuer, or the sink failed.
-    ensures pins { Pins result.status
-        (seen_by D.Desk D.Input.Source D.Journal.Store W.Sink words.now desk result out.old out.new) }
+    // To play a world, to fill a DOL, and words that are no command: these need no desk.
+    ensures alone { RunsAlone words.now result.status
+        (seen_by D.Desk D.Input.Source D.Journal.Store W.Sink desk result out.old out.new) }
 {
     let run = Run {
         alloc: rt.alloc(),
@@ -81,8 +89,8 @@ where
         D: Desk,
         D::Journal: Send,
         W: Sink,
-        ensures { Ends result.status
-            (seen_by D.Desk D.Input.Source D.Journal.Store W.Sink words.now run.desk result out.old out.new) }
+        ensures { DoesTask words.now result.status
+            (seen_by D.Desk D.Input.Source D.Journal.Store W.Sink run.desk result out.old out.new) }
     {
         match read_words(words) {
             Some(Task::Serve(names)) => self.serve(run, names, out),
@@ -104,10 +112,9 @@ where
         D::Journal: Send,
         W: Sink,
         requires { IsGroup names.callers }
-        ensures { (words : List (List ℕ)) → IsServe words names.entry.config.now
-            (request_file names.entry) names.entry.journal.now
-            → Ends result.status
-            (seen_by D.Desk D.Input.Source D.Journal.Store W.Sink words run.desk result out.old out.new) }
+        ensures { let seen = seen_by D.Desk D.Input.Source D.Journal.Store W.Sink run.desk result out.old out.new in
+            Ends (ways_to_serve names.entry.config.now (request_file names.entry) names.entry.journal.now seen)
+            result.status seen }
     {
         match open_issuer(run.alloc, &mut run.desk, names.config) {
             Ok((issuer, config)) => self.serve_issuer(run, issuer, config, names, out),
@@ -129,11 +136,12 @@ where
         D::Journal: Send,
         W: Sink,
         requires { IsGroup names.callers }
-        ensures { (words : List (List ℕ)) (given : D)
-            → let seen = seen_by D.Desk D.Input.Source D.Journal.Store W.Sink words given result out.old out.new in
-            IsSetUp seen (Some (request_file names.entry)) names.entry.journal.now issuer
-            → HasSoundParts issuer → IsSameDesk D.Desk given run.desk
-            → D.logs run.desk ≡ D.logs given → Ends result.status seen }
+        ensures { (given : D)
+            → let seen = seen_by D.Desk D.Input.Source D.Journal.Store W.Sink given result out.old out.new in
+            SaysIssuer seen names.entry.config.now issuer
+            → HasSoundParts issuer → IsSameDesk D.Desk given run.desk → D.logs run.desk ≡ D.logs given
+            → Ends (ways_to_serve names.entry.config.now (request_file names.entry) names.entry.journal.now seen)
+            result.status seen }
     {
         let (rt, desk) = (self.rt, &mut run.desk);
         match load_host(rt, run.alloc, desk, names.journal, issuer, names.callers) {
@@ -156,12 +164,14 @@ where
         D::Journal: Send,
         W: Sink,
         requires idle { IsIdle loaded.host 0 }
-        ensures { (words : List (List ℕ)) (given : D) (journal : List ℕ) (issuer : Setup)
-            → let seen = seen_by D.Desk D.Input.Source D.Journal.Store W.Sink words given result out.old out.new in
-            IsSetUp seen (Some (record { name = name.now; callers = callers_of loaded.host })) journal issuer
+        ensures { (given : D) (config journal : List ℕ) (issuer : Setup)
+            → let seen = seen_by D.Desk D.Input.Source D.Journal.Store W.Sink given result out.old out.new in
+            SaysIssuer seen config issuer
             → IsReady issuer journal (D.logs given) loaded.olds.items loaded.host
             → HasServed loaded.host [] [] [] loaded.host
-            → HasSoundParts issuer → IsSameDesk D.Desk given run.desk → Ends result.status seen }
+            → HasSoundParts issuer → IsSameDesk D.Desk given run.desk
+            → Ends (ways_to_serve config (record { name = name.now; callers = callers_of loaded.host }) journal seen)
+            result.status seen }
     {
         let Loaded { mut host, olds } = loaded;
         let mut server = match Server::new(run.alloc) {

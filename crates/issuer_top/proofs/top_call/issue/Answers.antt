@@ -1,16 +1,16 @@
--- How the run ended, that it is done where all is in order, and the status of a DOL that is filled and of a PIN that is
--- changed.
-use Rattle.issuer_top.proofs.InOrder.{completes}
-use Rattle.issuer_top.proofs.FillingSteps.{fills}
-use Rattle.issuer_top.proofs.PinSteps.{pins}
+-- What is done of each command.
+use Rattle.issuer_top.proofs.Commands.{runs-alone, runs-clear, runs-export, runs-pin, runs-serve, runs-show, runs-standby}
 use Rattle.issuer_top.proofs.top_call.issue.Goals as goal
 
 pub returns : goal.returns
 returns g c =
-    let ends = c.do_task.ensures in
+    let does = c.do_task.ensures in
     record {
-      ends = ends;
-      completes = completes _ _ ends.ending ends.status_is ends.ends_by;
-      fills = fills _ _ ends.ending ends.status_is ends.ends_by;
-      pins = pins _ _ ends.ending ends.status_is ends.ends_by;
+      serve = runs-serve _ _ _ does;
+      show = runs-show _ _ _ does;
+      clear = runs-clear _ _ _ does;
+      export = runs-export _ _ _ does;
+      standby = runs-standby _ _ _ does;
+      pin = runs-pin _ _ _ does;
+      alone = runs-alone _ _ _ does;
     }

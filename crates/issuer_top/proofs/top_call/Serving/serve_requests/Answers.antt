@@ -3,34 +3,33 @@ use Rattle.std.proofs.Common.{refl, ◌∙◌, subst}
 use Rattle.line_serving.specs.Hosts.{HasServed}
 use Rattle.issuer_top.specs.Opening.{GivesInput}
 use Rattle.line_blocks.proofs.ServingSteps.{AnswersAll}
-use Rattle.issuer_top.proofs.EndingSteps.{gives_input}
+use Rattle.issuer_top.proofs.EndingSteps.{ends-as, gives_input}
 use Rattle.issuer_top.proofs.ServingEnds.{ends_unserved, ends_no_requests, ends_serving}
-use Rattle.issuer_top.proofs.Statuses.{ends-as}
 use Rattle.issuer_top.proofs.top_call.Serving.serve_requests.Goals as goal
 
 pub returns-in-Err : goal.returns-in-Err
 returns-in-Err g c =
     let stopped = c.stop.ensures in
-    rw stopped.2 (λ words given journal issuer set_up ready served sound same.
-    ends-as _ _ stopped.0 refl
-    (ends_unserved _ _ journal issuer set_up _
+    rw stopped.2 (λ given config journal issuer said ready served sound same.
+    ends-as _ _ _ stopped.0 refl
+    (ends_unserved config _ journal _ issuer said _
     (record { config_is = refl; requests_is = refl; desk_stood = same.faults_are })
     (c.close-stores.ensures.loaded issuer journal (g.D.Desk.logs given) c.args.loaded.olds.items ready sound) stopped.1))
 
 pub returns-in-Err-read : goal.returns-in-Err-read
 returns-in-Err-read g c =
     let stopped = c.stop-in-Err-read.ensures in
-    rw stopped.2 (λ words given journal issuer set_up ready served sound same.
-    ends-as _ _ stopped.0 refl
-    (ends_no_requests _ _ journal issuer set_up (Unit {0}) _ _ c.in-Err-read.fault _ refl refl
+    rw stopped.2 (λ given config journal issuer said ready served sound same.
+    ends-as _ _ _ stopped.0 refl
+    (ends_no_requests config _ journal _ issuer said (Unit {0}) _ _ c.in-Err-read.fault _ refl refl
     (c.close-stores-in-Err-read.ensures.loaded issuer journal (g.D.Desk.logs given) c.args.loaded.olds.items ready sound) same.faults_are
     c.in-Err-read.ensures.count c.in-Err-read.ensures.last (rw c.stop_of.ensures at stopped.1)))
 
 pub returns : goal.returns
 returns g c =
-    rw c.ended.ensures (λ words given journal issuer set_up ready served sound same.
-    ends-as _ _ _ refl
-    (ends_serving _ _ journal issuer set_up _ _
+    rw c.ended.ensures (λ given config journal issuer said ready served sound same.
+    ends-as _ _ _ _ refl
+    (ends_serving config _ journal _ issuer said _ _
     (record { config_is = refl; requests_is = refl; desk_stood = c.in-Ok-read.ensures.count.counted ∙ same.faults_are })
     refl
     (subst (λ told. GivesInput (told c.args.name.now) (g.D.Input.Source.left c.in-Ok-read.requests)) same.holds_are
