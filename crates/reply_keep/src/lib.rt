@@ -4,7 +4,7 @@
 //! allocates.
 #![tactic(auto)]
 
-mod kept;
+mod window;
 
 pub use card_history::Decision as KeptEntry;
-pub use kept::Kept;
+pub use window::Kept;

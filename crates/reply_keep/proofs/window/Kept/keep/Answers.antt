@@ -6,7 +6,7 @@ use Rattle.card_history.specs.declared.decision.Decision.{Decision}
 use Rattle.reply_keep.specs.ReplySlots.{slot_of, all_slots}
 use Rattle.reply_keep.proofs.SlotLemmas.{slot_of-below}
 use Rattle.reply_keep.proofs.OpenSlots.{all_slots-pushed, all_slots-set}
-use Rattle.reply_keep.proofs.kept.Kept.keep.Goals as goal
+use Rattle.reply_keep.proofs.window.Kept.keep.Goals as goal
 
 pub returns-then-slot-len : goal.returns-then-slot-len
 returns-then-slot-len c =

@@ -1,7 +1,7 @@
 -- An open slot has what is in it, and one that isn't open is empty.
 use Rattle.std.proofs.Common.{◌≡◌, option_copied, sym, ◌∙◌, rules}
 use Rattle.reply_keep.proofs.OpenSlots.{in_slot-read, in_slot-unopened}
-use Rattle.reply_keep.proofs.kept.in_slot.Goals as goal
+use Rattle.reply_keep.proofs.window.in_slot.Goals as goal
 
 pub returns-then-slot-opened : goal.returns-then-slot-opened
 returns-then-slot-opened c =

@@ -1,8 +1,8 @@
--- No slot is open once all are removed.
+-- No slot is open at first.
 use Rattle.std.proofs.Common.{ap, ◌∙◌}
 use Rattle.reply_keep.specs.ReplySlots.{all_slots}
 use Rattle.reply_keep.proofs.OpenSlots.{all_slots-none}
-use Rattle.reply_keep.proofs.kept.Kept.clear.Goals as goal
+use Rattle.reply_keep.proofs.window.Kept.new.Goals as goal
 
 pub returns : goal.returns
-returns c = ap all_slots c.clear.ensures.items ∙ all_slots-none
+returns c = ap all_slots c.in_ok-opened.ensures.items ∙ all_slots-none

@@ -1,6 +1,6 @@
 -- The slots before the requested one are opened.
 use Rattle.std.proofs.Common.{ℕ, ◌++◌, replicate, None, ap, ◌∙◌, arith}
-use Rattle.reply_keep.proofs.kept.open_before.Goals as goal
+use Rattle.reply_keep.proofs.window.open_before.Goals as goal
 
 pub returns-clause-grown : goal.returns-clause-grown
 returns-clause-grown c =

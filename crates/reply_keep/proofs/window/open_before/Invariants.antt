@@ -1,6 +1,6 @@
 -- The slots so far are opened, and the room stays.
 use Rattle.std.proofs.Common.{◌≡◌, ◌-◌, ◌++◌, length, replicate, None, vec_capacity}
-use Rattle.reply_keep.proofs.kept.open_before.Given as goal
+use Rattle.reply_keep.proofs.window.open_before.Given as goal
 
 abbrev pub invariant-loop : goal.invariant-loop
 invariant-loop l = record {

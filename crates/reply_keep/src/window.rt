@@ -1,4 +1,4 @@
-//! The slots of a card's decisions.
+//! The window of a card: its decisions, each in the slot of its ATC.
 ghost use Rattle.std.specs.Prelude.{◌≡◌, ◌-◌, ◌<◌, ◌≤◌, [], ◌++◌, None, Some, length, replicate, vec_capacity, IfOk, option_copied};
 ghost use Rattle.reply_keep.specs.ReplySlots.{none_kept, in_slot, kept_on, with_kept, all_slots};
 
