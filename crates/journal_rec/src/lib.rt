@@ -5,9 +5,9 @@
 mod digits;
 mod laws;
 mod limits;
-mod line;
 mod pan;
 mod read;
+mod record_line;
 mod write;
 
 pub use laws::{a_text_has_one_reading, a_text_is_one_line, no_text_begins_another};

@@ -5,7 +5,7 @@ ghost use Rattle.journal_rec.specs.Record.{IsLineOf};
 ghost use Rattle.journal_rec.specs.Reading.{approval_at, after_letter, card_at, decided_at, entry_at, parts_at, psn_at, queued_at, reply_at, status_at};
 
 use crate::limits::COMMAND_BYTES;
-use crate::line::Line;
+use crate::record_line::Line;
 use issuer_base::{Entry, NotEntry, Pan, Parts, Reply, Request, is_decimal};
 use script_commands::read_command;
 

@@ -1,4 +1,4 @@
-//! A cursor over the bytes of a line: each method parses one part, and moves past it.
+//! A cursor over the bytes of a record's line: each method parses one part, and moves past it.
 ghost use Rattle.std.specs.Prelude.{◌≡◌, ◌*◌, ◌^◌, ◌<◌, length, option_map, IfSome};
 ghost use Rattle.journal_rec.specs.Reading.{byte_at, bytes_at, counter_at, end_at, mark_at, next_at, pan_at, piece_at, rest_at};
 
