@@ -60,6 +60,3 @@ pub fn holds(session: &SessionKey, request: &Request) -> bool
 {
     expected(session, request) == request.parts().ac
 }
-
-ghost use Rattle.std.specs.Prelude.{◌≡◌, ◌≤◌, ◌↔◌, length, map, IsTrue};
-ghost use Rattle.std.specs.List.{AllZip};
