@@ -1,5 +1,5 @@
 //! The law of cards that share a shard.
-ghost use Rattle.std.specs.Prelude.{◌≡◌, ◌≢◌, ℕ, false, List};
+ghost use Rattle.std.specs.Prelude.{◌≡◌, ◌≢◌, ℕ, List};
 ghost use Rattle.issuer_base.specs.CardNames.{CardName};
 ghost use Rattle.issuer_base.specs.declared.answer.Answer.{Answer};
 ghost use Rattle.issuer_base.specs.declared.entry.Entry.{Entry};
@@ -8,11 +8,10 @@ ghost use Rattle.card_history.specs.LegalRecords.{IsLegalHistory};
 ghost use Rattle.card_history.specs.Records.{card_of};
 ghost use Rattle.card_history.specs.declared.decision.Asked.{Asked};
 ghost use Rattle.issuer_setup.specs.IssuerSetup.{Setup};
-ghost use Rattle.shard_book.specs.Answering.{is_store_fault};
 ghost use Rattle.shard_book.specs.Grounds.{grounds_of};
 ghost use Rattle.shard_book.specs.Replying.{reply_to};
 ghost use Rattle.one_caller.specs.Turns.{AnswersAsked, card_asked};
-ghost use Rattle.desk_host.specs.Isolation.{own_records, unplaced};
+ghost use Rattle.desk_host.specs.Isolation.{AreAlike, HaveSameRecords};
 
 /// A card is answered by its own records alone, whatever other cards share its shard. Two histories may differ in the
 /// records of all other cards, and be of two shards. If they have the same records of a card:
@@ -24,17 +23,16 @@ ghost use Rattle.desk_host.specs.Isolation.{own_records, unplaced};
 /// `others`: what is asked of a card adds no record of another.
 pub fn a_card_is_answered_by_its_own_records()
     ensures reply { (issuer : Setup) (request : Request) (one other : List Entry)
-        → own_records (card_of request) one ≡ own_records (card_of request) other
+        → HaveSameRecords (card_of request) one other
         → reply_to issuer one request ≡ reply_to issuer other request }
     ensures answer { (issuer : Setup) (asked : Asked) (shard other_shard : ℕ) (one other one_after other_after : List Entry)
         (answer other_answer : Answer)
-        → own_records (card_asked asked) one ≡ own_records (card_asked asked) other
+        → HaveSameRecords (card_asked asked) one other
         → IsLegalHistory (grounds_of issuer) shard one
         → AnswersAsked issuer asked answer shard one one_after
         → AnswersAsked issuer asked other_answer other_shard other other_after
-        → is_store_fault answer ≡ false → is_store_fault other_answer ≡ false
-        → unplaced answer ≡ unplaced other_answer }
+        → AreAlike answer other_answer }
     ensures others { (issuer : Setup) (asked : Asked) (shard : ℕ) (before after : List Entry) (answer : Answer)
         (card : CardName) → card ≢ card_asked asked → AnswersAsked issuer asked answer shard before after
-        → own_records card after ≡ own_records card before }
+        → HaveSameRecords card after before }
 {}
