@@ -1,5 +1,5 @@
 //! Whether a recorded decision is a valid successor, and how the row adopts it.
-ghost use Rattle.std.specs.Prelude.{◌≡◌, ◌↔◌, ◌++◌, List, [], ◌∷◌, length, slice_index, false, IsTrue};
+ghost use Rattle.std.specs.Prelude.{◌≡◌, ◌↔◌, ◌≤◌, ◌++◌, List, [], ◌∷◌, length, slice_index, false, IfSome, IsSome, IsTrue};
 ghost use Rattle.issuer_base.specs.declared.entry.Entry.{Entry};
 ghost use Rattle.card_history.specs.Records.{card_of, decided};
 ghost use Rattle.card_history.specs.Scripts.{Scripts};
@@ -15,9 +15,16 @@ ghost use Rattle.issuer_base.specs.declared.limits.TheConstants.{OLD_WINDOW, WIN
 use crate::row::Row;
 use crate::scripts::Launch;
 use arrayvec::ArrayVec;
-use issuer_base::{Method, OLD_WINDOW, Reply, Request};
+use issuer_base::{Method, OLD_WINDOW, Reply, Request, WINDOW};
 use key_derive::{LazyKeys, SessionKey};
 use reply_keep::KeptEntry;
+
+/// What a row accepted of a recorded decision, to be applied.
+#[derive(Clone, Copy)]
+pub struct Accepted {
+    /// The launch of the batch of its reply.
+    pub launch: Option<Launch>,
+}
 
 impl Row {
     /// Adopts a recorded decision, whose record is at this index of the card's shard, if it is a valid successor: its
@@ -43,11 +50,10 @@ impl Row {
             → StandsFor card self.new (history ++ Entry.Decided request reply ∷ []) }
         ensures unchanged { result ≡ false → self.new ≡ self.old }
     {
-        let launch = self.launch(&request);
-        if !self.accepts_by(session, keys, &request, launch, &reply) {
+        let Some(accepted) = self.accept(WINDOW, session, keys, &request, &reply) else {
             return false;
-        }
-        self.apply(&request, &reply, launch, place);
+        };
+        self.apply(&request, &reply, accepted.launch, place);
         true
     }
 
@@ -89,25 +95,39 @@ impl Row {
             → card_of request.now ≡ name_of card
             → (IsTrue result ↔ IsValidSuccessor WINDOW card.method keys.now history request.now reply.now) }
     {
-        self.accepts_by(session, keys, request, self.launch(request), reply)
+        self.accept(WINDOW, session, keys, request, reply).is_some()
     }
 
-    /// Whether a decision with this reply is a valid successor. `launch` is that of the reply's batch.
-    fn accepts_by(
+    /// Accepts a recorded decision of a journal with a window of so many ATCs, if it is a valid successor. Nothing changes
+    /// yet: [`Row::apply`] adds it, with the launch that is accepted, as long as the row is unchanged.
+    ///
+    /// `session` and `keys` are those that [`Row::adopt`] takes.
+    pub fn accept(
         &self,
+        window: u16,
         session: &SessionKey,
         keys: &LazyKeys,
         request: &Request,
-        launch: Option<Launch>,
         reply: &Reply,
-    ) -> bool
+    ) -> Option<Accepted>
         requires session { session.now ≡ session_of keys.now request.now.atc }
-        requires launch { IsLaunchFor self.now request.now launch }
+        requires window { window ≤ WINDOW }
         ensures exact { (card : CardInfo) (history : List Entry) → StandsFor card self.now history
             → card_of request.now ≡ name_of card
-            → (IsTrue result ↔ IsValidSuccessor WINDOW card.method keys.now history request.now reply.now) }
+            → (IsSome result ↔ IsValidSuccessor window card.method keys.now history request.now reply.now) }
+        ensures launch { IfSome result (λ accepted. IsLaunchFor self.now request.now accepted.launch) }
     {
-        self.is_unused(request) && self.is_made(session, keys, request, launch, reply)
+        if self.is_below(request.parts().atc, window) {
+            return None;
+        }
+        if !self.is_unused(request) {
+            return None;
+        }
+        let launch = self.launch(request);
+        if !self.is_made(session, keys, request, launch, reply) {
+            return None;
+        }
+        Some(Accepted { launch })
     }
 
     /// Whether the request's ATC is in the window and unused.

@@ -10,6 +10,7 @@ pub mod ShardSteps
 pub mod LegalDecisions
 pub mod LegalNext
 pub mod Adopted
+pub mod Applied
 pub mod BothStores
 pub mod Lines
 pub mod Loaded

@@ -13,13 +13,14 @@ use Rattle.issuer_base.specs.declared.entry.Entry.{Entry}
 use Rattle.issuer_base.specs.declared.entry.Entry.TheVariants.{Decided, Queued, Status}
 use Rattle.card_history.specs.declared.decision.Asked.TheVariants.{Decide}
 use Rattle.card_history.specs.LegalRecords.{IsLegal, IsLegalHistory}
+use Rattle.card_history.specs.Records.{card_in}
 use Rattle.issuer_base.specs.CardNames.{named}
 use Rattle.issuer_setup.specs.IssuerSetup.{Setup}
 use Rattle.journal_rec.specs.Record.{IsRecord, IsLineOf}
 use Rattle.journal_rec.specs.RecordText.{newline, text_of, texts_of, IsUnbroken}
 use Rattle.journal_rec.proofs.TextLaws.{text_of-IsLine}
 use Rattle.line_checks.specs.declared.checked.CheckedOrder.{CheckedOrder}
-use Rattle.line_checks.specs.AtHand.{record_of}
+use Rattle.line_checks.specs.AtHand.{IsCardAtHand, number_of_order, record_of}
 use Rattle.line_checks.specs.declared.looked_up.LookedUp.{LookedUp}
 use Rattle.line_checks.specs.declared.looked_up.LookedUp.TheVariants.{Request as IsRequest, Order}
 use Rattle.line_checks.specs.LookedUp.{IsLookedUpAgain, IsReady}
@@ -148,6 +149,13 @@ pub order-of : (issuer : Setup) (entry : Entry) (order : CheckedOrder) → IsLoo
 order-of issuer (Decided request reply) order its = its.0
 order-of issuer (Queued pan psn command) order its = its.0
 order-of issuer (Status pan psn status) order its = its.0
+
+-- and its card is that of the record
+pub order-card : (issuer : Setup) (entry : Entry) (order : CheckedOrder) → IsLookedUp issuer entry (Ok (Order order))
+    → IsCardAtHand issuer (card_in entry) (number_of_order order)
+order-card issuer (Decided request reply) order its = its.1
+order-card issuer (Queued pan psn command) order its = its.1
+order-card issuer (Status pan psn status) order its = its.1
 
 -- what is refused is no valid successor
 pub refused-illegal : (version : Version) (issuer : Setup) (shard : ℕ) (history : List Entry) (entry : Entry) (refusal : Refusal)

@@ -1,6 +1,7 @@
 -- The definitions that the contracts of this crate cite.
 pub mod ShardRows
 pub mod Steps
+pub mod Accepted
 pub mod Grounds
 pub mod Histories
 pub mod Versions

@@ -1,8 +1,7 @@
 -- What one more record does to the rows of a shard.
-use Rattle.std.specs.Prelude.{◌≡◌, ◌↔◌, ℕ, ◌/◌, Bool, List, [], ◌∷◌, ◌++◌, length, slice_get, Option, Some, MatchOption, IsTrue}
+use Rattle.std.specs.Prelude.{◌≡◌, ◌↔◌, ℕ, ◌/◌, Bool, List, slice_get, Option, Some, MatchOption, IsTrue}
 use Rattle.issuer_base.specs.declared.command.Command.{Command}
 use Rattle.issuer_base.specs.declared.entry.Entry.{Entry}
-use Rattle.issuer_base.specs.declared.entry.Entry.TheVariants.{Decided}
 use Rattle.issuer_base.specs.declared.answer.Reply.{Reply}
 use Rattle.card_history.specs.Records.{card_of}
 use Rattle.row_core.specs.Accepting.{IsValidSuccessor}
@@ -53,14 +52,6 @@ Accepts window rows found reply accepted =
     → IsCardOf issuer found.card card
     → card_of found.request ≡ name_of card
     → (IsTrue accepted ↔ IsValidSuccessor window card.method found.keys history found.request reply)
-
--- the decision is replayed
-abbrev pub Adopts : ShardRows → CheckedRequest → Reply → ℕ → ShardRows → Type 0
-Adopts old found reply place new =
-    (issuer : Setup) (card : CardInfo) (history : List Entry) → RowsStandFor issuer old history
-    → IsCardOf issuer found.card card
-    → card_of found.request ≡ name_of card → place ≡ length history
-    → RowsStandFor issuer new (history ++ Decided found.request reply ∷ [])
 
 -- whether the card's queue accepts one more command
 abbrev pub TakesCommand : ShardRows → ℕ → Bool → Type 0

@@ -1,29 +1,22 @@
 //! Replays the records of a journal, each if it is a valid successor.
-ghost use Rattle.std.specs.Prelude.{◌≡◌, ◌↔◌, ℕ, ◌≤◌, List, [], ◌∷◌, ◌++◌, length, IsTrue};
+ghost use Rattle.std.specs.Prelude.{◌≡◌, ◌↔◌, List, [], ◌∷◌, ◌++◌, length, IsTrue};
 ghost use Rattle.issuer_base.specs.declared.entry.Entry.{Entry};
-ghost use Rattle.issuer_base.specs.ScriptCommand.{is_command};
-ghost use Rattle.card_history.specs.LegalRecords.{IsLegal, IsLegalDecision, IsLegalCommand, IsLegalStatus};
-ghost use Rattle.issuer_base.specs.CardNames.{named};
-ghost use Rattle.card_history.specs.Records.{card_of};
-ghost use Rattle.key_derive.specs.SessionKey.{session_of};
-ghost use Rattle.issuer_setup.specs.declared.card.CardInfo.{CardInfo};
-ghost use Rattle.issuer_setup.specs.CardList.{name_of};
+ghost use Rattle.card_history.specs.LegalRecords.{IsLegal};
 ghost use Rattle.issuer_setup.specs.IssuerSetup.{Setup};
-ghost use Rattle.row_core.specs.Accepting.{IsValidSuccessor};
 ghost use Rattle.line_checks.specs.AtHand.{IsCardAtHand, card_of_order, number_of_order, record_of};
-ghost use Rattle.line_checks.specs.LookedUp.{HasKeysAtHand};
 ghost use Rattle.journal_rec.specs.Record.{is_record};
+ghost use Rattle.shard_book.specs.Accepted.{IsAccepted, IsReady};
 ghost use Rattle.shard_book.specs.ReadAhead.{IsLookedUp};
-ghost use Rattle.shard_book.specs.Grounds.{grounds_by, IsMadeBy};
+ghost use Rattle.shard_book.specs.Grounds.{grounds_of};
 ghost use Rattle.shard_book.specs.Versions.{grounds_in};
 ghost use Rattle.shard_book.specs.ShardRows.{AreRowsOf, AreSame, IsHome, RowsStandFor};
-ghost use Rattle.shard_book.specs.Steps.{IsCardOf};
 
+use crate::accepting::AcceptedRecord;
 use crate::replay::Version;
 use crate::rows::Rows;
-use issuer_base::{Entry, MAX_STATUS, Refusal, Reply};
+use issuer_base::{Entry, Refusal};
 use issuer_setup::Issuer;
-use line_checks::{CheckedCommand, CheckedOrder, CheckedStatus, LookedUp, LookedUpRequest};
+use line_checks::{CheckedOrder, LookedUp};
 
 impl Rows {
     /// Replays the record with this index if it is a valid successor. `found` is what was looked up for it. The result is
@@ -45,106 +38,44 @@ impl Rows {
             → place ≡ length history → RowsStandFor issuer.now self.new (history ++ entry.now ∷ []) }
         ensures same { AreSame self.old self.new }
     {
-        let Ok(found) = found else {
+        let Some(accepted) = self.accept(version, issuer, entry, found) else {
             return false;
         };
-        match found {
-            LookedUp::Request(sought) => {
-                let Entry::Decided { reply, .. } = entry else {
-                    return false;
-                };
-                self.adopt_decision(version, issuer, sought, reply, place)
-            }
-            LookedUp::Order(order) => self.adopt_order(issuer, order),
-        }
+        self.apply_record(&accepted, place);
+        true
     }
 
-    /// Replays a decision.
-    fn adopt_decision(
-        &mut self,
-        version: Version,
-        issuer: &Issuer,
-        sought: &LookedUpRequest,
-        reply: &Reply,
-        place: u64,
-    ) -> bool
-        requires rows { AreRowsOf issuer.now self.old }
-        requires known { HasKeysAtHand issuer.now sought.now }
-        ensures exact { (history : List Entry) → RowsStandFor issuer.now self.old history
-            → (IsTrue result ↔ IsLegalDecision (grounds_in version issuer.now) self.old.shard history sought.now.request
-            reply.now) }
-        ensures adopted { IsTrue result → (history : List Entry) → RowsStandFor issuer.now self.old history
-            → place ≡ length history
-            → RowsStandFor issuer.now self.new (history ++ Entry.Decided sought.now.request reply.now ∷ []) }
+    /// Applies a record with this index, which the rows accepted and are unchanged since.
+    pub(crate) fn apply_record(&mut self, accepted: &AcceptedRecord, place: u64)
+        requires { IsReady self.old accepted.now }
+        ensures applied { (issuer : Setup) (entry : Entry) (history : List Entry)
+            → IsAccepted issuer self.old entry accepted.now → RowsStandFor issuer self.old history
+            → IsLegal (grounds_of issuer) self.old.shard history entry
+            → place ≡ length history → RowsStandFor issuer self.new (history ++ entry ∷ []) }
         ensures same { AreSame self.old self.new }
     {
-        let Ok(found) = sought.check(issuer) else {
-            return false;
-        };
-        if issuer.shard_of(found.card) != self.shard() {
-            return false;
+        match accepted {
+            AcceptedRecord::Decision(found, reply, launch) => {
+                self.apply(found, reply, *launch, place);
+            }
+            AcceptedRecord::Order(order) => self.apply_order(order),
         }
-        self.adopt_checked(version, found, reply.copy(), place)
     }
 
-    /// Replays a command or a status.
-    fn adopt_order(&mut self, issuer: &Issuer, order: &CheckedOrder) -> bool
-        requires rows { AreRowsOf issuer.now self.old }
+    /// Applies a command or a status, which the rows accepted.
+    fn apply_order(&mut self, order: &CheckedOrder)
+        requires home { IsHome self.old (number_of_order order.now) }
         requires form { IsTrue (is_record (record_of order.now)) }
-        requires card { IsCardAtHand issuer.now (card_of_order order.now) (number_of_order order.now) }
-        ensures exact { (window : ℕ) (history : List Entry) → RowsStandFor issuer.now self.old history
-            → (IsTrue result ↔ IsLegal (grounds_by issuer.now window (IsMadeBy issuer.now)) self.old.shard history
-            (record_of order.now)) }
-        ensures adopted { IsTrue result → (history : List Entry) → RowsStandFor issuer.now self.old history
-            → RowsStandFor issuer.now self.new (history ++ record_of order.now ∷ []) }
+        ensures applied { (issuer : Setup) (history : List Entry)
+            → IsCardAtHand issuer (card_of_order order.now) (number_of_order order.now)
+            → RowsStandFor issuer self.old history
+            → IsLegal (grounds_of issuer) self.old.shard history (record_of order.now)
+            → RowsStandFor issuer self.new (history ++ record_of order.now ∷ []) }
         ensures same { AreSame self.old self.new }
     {
         match order {
-            CheckedOrder::Command(asked) => self.adopt_command(issuer, asked),
-            CheckedOrder::Status(asked) => self.adopt_status(issuer, asked),
+            CheckedOrder::Command(asked) => self.push(asked.card, asked.command.copy()),
+            CheckedOrder::Status(asked) => self.set_status(asked.card, asked.status),
         }
-    }
-
-    /// Replays a command.
-    fn adopt_command(&mut self, issuer: &Issuer, asked: &CheckedCommand) -> bool
-        requires rows { AreRowsOf issuer.now self.old }
-        requires form { IsTrue (is_command asked.now.command) }
-        requires card { IsCardAtHand issuer.now (named asked.now.pan asked.now.psn) asked.now.card }
-        ensures exact { (window : ℕ) (history : List Entry) → RowsStandFor issuer.now self.old history
-            → (IsTrue result ↔ IsLegalCommand (grounds_by issuer.now window (IsMadeBy issuer.now)) self.old.shard
-            history (named asked.now.pan asked.now.psn) asked.now.command) }
-        ensures adopted { IsTrue result → (history : List Entry) → RowsStandFor issuer.now self.old history
-            → RowsStandFor issuer.now self.new
-            (history ++ Entry.Queued asked.now.pan asked.now.psn asked.now.command ∷ []) }
-        ensures same { AreSame self.old self.new }
-    {
-        if issuer.shard_of(asked.card) != self.shard() {
-            return false;
-        }
-        if !self.takes_command(asked.card) {
-            return false;
-        }
-        self.push(asked.card, asked.command.copy());
-        true
-    }
-
-    /// Replays a status.
-    fn adopt_status(&mut self, issuer: &Issuer, asked: &CheckedStatus) -> bool
-        requires rows { AreRowsOf issuer.now self.old }
-        requires within { asked.now.status ≤ MAX_STATUS }
-        requires card { IsCardAtHand issuer.now (named asked.now.pan asked.now.psn) asked.now.card }
-        ensures exact { (window : ℕ) (history : List Entry) → RowsStandFor issuer.now self.old history
-            → (IsTrue result ↔ IsLegalStatus (grounds_by issuer.now window (IsMadeBy issuer.now)) self.old.shard
-            (named asked.now.pan asked.now.psn) asked.now.status) }
-        ensures adopted { IsTrue result → (history : List Entry) → RowsStandFor issuer.now self.old history
-            → RowsStandFor issuer.now self.new
-            (history ++ Entry.Status asked.now.pan asked.now.psn asked.now.status ∷ []) }
-        ensures same { AreSame self.old self.new }
-    {
-        if issuer.shard_of(asked.card) != self.shard() {
-            return false;
-        }
-        self.set_status(asked.card, asked.status);
-        true
     }
 }

@@ -1,6 +1,7 @@
 //! A shard over a store: the rows of its cards, and the journal of its records.
 #![tactic(auto)]
 
+mod accepting;
 mod adopting;
 mod ahead;
 mod loading;

@@ -1,17 +1,19 @@
 //! Replays the records of a text, line by line.
-ghost use Rattle.std.specs.Prelude.{◌≡◌, ◌≢◌, ◌+◌, ◌^◌, ◌<◌, List, length, drop, IfOk, IfErr, MatchResult, All, false};
+ghost use Rattle.std.specs.Prelude.{◌≡◌, ◌≢◌, ◌+◌, ◌^◌, ◌<◌, ◌≤◌, List, length, drop, IfOk, IfErr, MatchResult, All, false};
 ghost use Rattle.issuer_base.specs.declared.entry.Entry.{Entry};
+ghost use Rattle.issuer_base.specs.declared.limits.TheConstants.{WINDOW};
 ghost use Rattle.shard_book.specs.Loading.{IsWithin, StopsLines, TakesLines, is_store_failure};
 ghost use Rattle.shard_book.specs.ReadAhead.{AreLookedUp, StopsWithin, TakesAll};
 ghost use Rattle.journal_rec.specs.Record.{IsRecord};
 ghost use Rattle.card_history.specs.LegalRecords.{IsLegalHistory};
 ghost use Rattle.journal_rec.specs.RecordText.{IsUnbroken};
-ghost use Rattle.shard_book.specs.Versions.{bad_line, bad_record, grounds_in};
+ghost use Rattle.shard_book.specs.Versions.{bad_line, bad_record, grounds_in, window_in};
 ghost use Rattle.shard_book.specs.ShardRows.{AreRowsOf, AreSame, RowsStandFor};
 
 use crate::ahead::Ahead;
 use crate::newline::next_newline;
 use crate::rows::Rows;
+use issuer_base::{OLD_WINDOW, WINDOW};
 use issuer_setup::Issuer;
 
 /// Why a journal isn't loaded.
@@ -51,6 +53,17 @@ pub enum Version {
 }
 
 impl Version {
+    /// How many ATCs the window of its records has.
+    pub(crate) fn window(self) -> u16
+        ensures window { result ≡ window_in self }
+        ensures within { result ≤ WINDOW }
+    {
+        match self {
+            Version::One => OLD_WINDOW,
+            Version::Two => WINDOW,
+        }
+    }
+
     /// The fault of the line after so many records, if it is that of no record.
     pub(crate) fn bad_line(self, records: u64) -> LoadFault
         requires { records + 2 < 2 ^ 64 }

@@ -1,27 +1,17 @@
 //! The rows of a shard's cards.
-ghost use Rattle.std.specs.Prelude.{◌≡◌, ◌↔◌, ℕ, take, ◌+◌, ◌*◌, ◌/◌, ◌%◌, ◌<◌, ◌≤◌, ◌^◌, List, [], ◌∷◌, ◌++◌, length, slice_get, Some, false, IfOk, IsTrue};
+ghost use Rattle.std.specs.Prelude.{◌≡◌, ◌↔◌, ℕ, take, ◌+◌, ◌*◌, ◌/◌, ◌%◌, ◌<◌, ◌≤◌, ◌^◌, List, [], length, slice_get, Some, IfOk, IsTrue};
 ghost use Rattle.counter_bits.specs.CounterSets.{has, times, one_if};
 ghost use Rattle.issuer_base.specs.declared.entry.Entry.{Entry};
 ghost use Rattle.issuer_base.specs.ScriptCommand.{is_command};
-ghost use Rattle.card_history.specs.LegalRecords.{IsLegal};
-ghost use Rattle.card_history.specs.Records.{card_of};
-ghost use Rattle.issuer_setup.specs.CardList.{name_of};
 ghost use Rattle.issuer_setup.specs.IssuerSetup.{Setup};
-ghost use Rattle.issuer_setup.specs.declared.card.CardInfo.{CardInfo};
-ghost use Rattle.row_core.specs.Accepting.{IsValidSuccessor};
-ghost use Rattle.row_core.specs.CardRow.{StandsFor as RowStandsFor};
 ghost use Rattle.row_core.specs.Replying.{reply_to};
-ghost use Rattle.key_derive.specs.SessionKey.{session_of};
 ghost use Rattle.line_checks.specs.AtHand.{IsRequestAtHand};
 ghost use Rattle.shard_book.specs.ShardRows.{AreRowsOf, AreSame, IsHome, AreEmpty, Covers, Lists, RowsStandFor};
-ghost use Rattle.shard_book.specs.Versions.{window_in};
-ghost use Rattle.shard_book.specs.Steps.{IsKnownFor, IsLaunchAt, Applies, Accepts, Adopts, Queues, TakesCommand, SetsStatus};
+ghost use Rattle.shard_book.specs.Steps.{IsKnownFor, IsLaunchAt, Applies, Queues, TakesCommand, SetsStatus};
 
-use crate::replay::Version;
 use counter_bits::CounterBits;
 use issuer_base::{Command, MAX_CARDS, MAX_STATUS, NoMemory, Reply, Request};
 use issuer_setup::Issuer;
-use key_derive::{LazyKeys, SessionKey};
 use line_checks::CheckedRequest;
 use row_core::{Known, Launch, Row};
 use std::alloc::Global;
@@ -146,37 +136,6 @@ impl Rows {
         self.rows[index].apply(&found.request, reply, launch, place);
     }
 
-    /// Replays the decision of a checked request if it is a valid successor by the window of its journal. The result is
-    /// whether it is.
-    pub(crate) fn adopt_checked(
-        &mut self,
-        version: Version,
-        found: CheckedRequest,
-        reply: Reply,
-        place: u64,
-    ) -> bool
-        requires home { IsHome self.old found.card }
-        requires session { found.session ≡ session_of found.keys found.request.atc }
-        ensures exact { Accepts (window_in version) self.old found reply result }
-        ensures adopted { IsTrue result → Adopts self.old found reply place self.new }
-        ensures same { AreSame self.old self.new }
-    {
-        let CheckedRequest {
-            request,
-            card,
-            keys,
-            session,
-        } = found;
-        let index = index_of(card, self.shards);
-        let counter = request.parts().atc;
-        let row = &mut self.rows[index];
-        if !adopt_by(version, row, &session, &keys, request, reply, place) {
-            return false;
-        }
-        self.bits.add(index, counter);
-        true
-    }
-
     /// Whether the queue of this card accepts one more command.
     pub(crate) fn takes_command(&self, card: u32) -> bool
         requires { IsHome self.now card }
@@ -218,30 +177,6 @@ impl Rows {
             self.bits.list_into(index as usize, card, list)?;
         }
         Ok(())
-    }
-}
-
-/// Adopts a recorded decision by the window of its journal if it is a valid successor. Returns whether it did.
-fn adopt_by(
-    version: Version,
-    row: &mut Row,
-    session: &SessionKey,
-    keys: &LazyKeys,
-    request: Request,
-    reply: Reply,
-    place: u64,
-) -> bool
-    requires { session.now ≡ session_of keys.now request.atc }
-    ensures exact { (card : CardInfo) (history : List Entry) → RowStandsFor card row.old history
-        → card_of request ≡ name_of card
-        → (IsTrue result ↔ IsValidSuccessor (window_in version) card.method keys.now history request reply) }
-    ensures adopted { IsTrue result → (card : CardInfo) (history : List Entry) → RowStandsFor card row.old history
-        → card_of request ≡ name_of card → place ≡ length history
-        → RowStandsFor card row.new (history ++ Entry.Decided request reply ∷ []) }
-{
-    match version {
-        Version::One => row.adopt_old(session, keys, request, reply, place),
-        Version::Two => row.adopt(session, keys, request, reply, place),
     }
 }
 

@@ -180,14 +180,14 @@ impl<S: Store> Shard<S> {
         ensures room { UsesRoom (most_of entry.now) (is_failed_store result) self.old self.new }
         ensures kept { KeepsReplica issuer.now self.old result self.new }
     {
-        if !self.rows.accepts(issuer, entry) {
+        let found = look_up_record(issuer, entry);
+        let Some(accepted) = self.rows.accept(Version::Two, issuer, entry, &found) else {
             return Err(TakeFault::NotLegal);
-        }
+        };
         let Ok(place) = self.put(entry) else {
             return Err(TakeFault::StoreFault);
         };
-        let found = look_up_record(issuer, entry);
-        let _ = self.rows.adopt(Version::Two, issuer, entry, &found, place);
+        self.rows.apply_record(&accepted, place);
         Ok(place)
     }
 
