@@ -33,6 +33,7 @@ use Rattle.line_blocks.specs.Serving.{TakesLine, Settles}
 use Rattle.line_serving.specs.Leaving.{LeavesAnswered, LeavesLoaded}
 use Rattle.line_serving.specs.declared.alone.AloneHost.{AloneHost}
 use Rattle.line_serving.specs.declared.hosts.LineHost.TheVariants.{Alone}
+use Rattle.line_serving.specs.Durable.{IsRecordedText}
 use Rattle.line_serving.specs.Hosts.{HasAnswered, MaySettleAlone, IsIdle}
 use Rattle.desk_host.specs.Left.{LeaveJournals}
 use Rattle.desk_host.specs.SeenStores.{Logged, journals_seen}
@@ -56,7 +57,7 @@ run-kept issuer first [] (answer ∷ answers) last run = absurd run
 run-kept issuer first (line ∷ asked) [] last run = absurd run
 
 -- the text of one answer more
-texts-more : (answers : List Answer) (answer : Answer)
+pub texts-more : (answers : List Answer) (answer : Answer)
     → flat_map printed (answers ++ answer ∷ []) ≡ flat_map printed answers ++ printed answer
 texts-more answers answer = sym (flat_map_more printed [] answers answer)
 
@@ -330,14 +331,15 @@ module _ {S : Type 0} {G : Ghosts S} where
   -- ---- a host that was loaded
 
   -- it is idle
-  pub idle-alone : (alone : AloneHost S G) → alone.ahead ≡ [] → IsIdle (Alone alone) 0
-  idle-alone alone none =
+  pub idle-alone : (alone : AloneHost S G) → alone.ahead ≡ [] → IsRecordedText alone.host [] → IsIdle (Alone alone) 0
+  idle-alone alone none recorded =
       let count : length alone.ahead ≡ 0 = ap length none in
-      let may : MaySettleAlone alone 0 = record {
+      let may : MaySettleAlone alone 0 [] = record {
         waiting = [];
         looked_up = subst (AreLookUps alone.host.issuer []) (sym none) tt;
         few = omega (arith, count);
         fit = omega (arith, count);
+        recorded = recorded;
       } in
       record { room = record { may_settle = may; fits = omega (arith, count) }; may_settle = may; settled = none }
 

@@ -1,5 +1,7 @@
 -- The lemmas of this crate.
 pub mod AloneSteps
+pub mod Durable
+pub mod DurableAlone
 pub mod TogetherSteps
 pub mod LoadingTogether
 pub mod HostSteps

@@ -1,8 +1,9 @@
 -- The host of several callers: a line more, and what it leaves.
 use Rattle.std.proofs.Common.{◌≡◌, ℕ, ◌≤◌, List, [], ◌∷◌, ◌++◌, length, map, Option, Some, Result, Ok, Err}
-use Rattle.std.proofs.Common.{refl, sym, ap, subst, ◌∙◌, append-nil, append_assoc}
+use Rattle.std.proofs.Common.{refl, sym, ap, subst, ◌∙◌, append-nil, append_assoc, arith, OnOk}
 use Rattle.std.specs.Prelude.{IfSome}
 use Rattle.std.proofs.lemmas.List.{length-map, map-append, nil_from_length}
+use Rattle.std.proofs.lemmas.Bool.{ne_eqb}
 use Rattle.std.proofs.lemmas.Grind.{flat_map-append}
 use Rattle.std.specs.List.{flat_map}
 use Rattle.std.specs.Io.KnownBytes.{Appends}
@@ -26,7 +27,7 @@ use Rattle.shared_callers.specs.Lanes.{LanesServe}
 use Rattle.shared_callers.specs.Rounds.{AnswersRound}
 use Rattle.desk_host.specs.Configuration.{HasSoundParts}
 use Rattle.line_blocks.specs.Serving.{TakesLine, TakesAndWrites, WritesAnswers}
-use Rattle.line_serving.specs.Hosts.{IsReadyTogether, HaveAnswered}
+use Rattle.line_serving.specs.Hosts.{IsReadyTogether, HaveAnswered, OwesNone, TakesMore}
 use Rattle.desk_host.specs.SeenStores.{Logged, journals_seen}
 use Rattle.line_serving.specs.Leaving.{LeavesAnswered, LeavesLoaded}
 use Rattle.line_serving.proofs.LogBooks.{leaves-together, leaves-loaded_together}
@@ -318,3 +319,39 @@ module _ {S : Type 0} {G : Ghosts S} where
         written = subst (λ (t : List ℕ). WritesAll held_before held_after result (t ++ flat_map printed more))
             (sym none_due) written.1;
       }
+
+  -- ---- a host that owes no answer
+
+  -- a line more waits
+  pub owes-none : (old new : Lanes S G) (lines : ℕ) (line : List ℕ) → due_in new ≡ due_in old
+      → ((lines : List (List ℕ)) (answers due : List Answer) (waiting : List (List ℕ)) → LanesServe old lines answers due waiting
+      → LanesServe new lines answers due (waiting ++ line ∷ []))
+      → OwesNone old lines → OwesNone new lines
+  owes-none old new lines line same deals owes = record {
+    no_lines = owes.no_lines;
+    none_due = same ∙ owes.none_due;
+    answered = owes.answered;
+    answers = owes.answers;
+    waiting = owes.waiting ++ line ∷ [];
+    served = deals owes.answered owes.answers [] owes.waiting owes.served;
+  }
+
+  -- no line waits, and one may be taken
+  pub takes-more : (host : Lanes S G) (lines : ℕ) (answered : List (List ℕ)) (answers : List Answer) (waiting : List (List ℕ))
+      → LanesServe host answered answers [] waiting → lines ≡ 0 → due_in host ≡ 0 → waiting_in host ≡ 0 → TakesMore host lines
+  takes-more host lines answered answers waiting served no_lines none_due none_waits = record {
+    owes_none = record {
+      no_lines = no_lines;
+      none_due = none_due;
+      answered = answered;
+      answers = answers;
+      waiting = waiting;
+      served = served;
+    };
+    not_full = ne_eqb _ _ (λ same. let room = host.some_room in absurd (omega (arith, same, room, none_waits)));
+  }
+
+-- what holds anyway holds where a call succeeded
+pub on-ok : {X E : Type 0} (P : Type 0) (result : Result X E) → P → OnOk result P
+on-ok P (Ok x) holds = holds
+on-ok P (Err error) holds = tt

@@ -13,6 +13,7 @@ use Rattle.one_caller.specs.Runs.{HasRun}
 use Rattle.shared_callers.specs.declared.lanes.Lanes.{Lanes}
 use Rattle.line_blocks.specs.declared.block.TheConstants.{BLOCK_LINES}
 use Rattle.line_reader.specs.Reading.{unread}
+use Rattle.line_serving.specs.Durable.{IsRecordedText}
 use Rattle.line_serving.specs.declared.serve.Server.{Server}
 use Rattle.line_serving.specs.declared.alone.AloneHost.{AloneHost}
 use Rattle.line_serving.specs.declared.hosts.LineHost.{LineHost}
@@ -38,16 +39,17 @@ module _ {S : Type 0} {G : Ghosts S} where
         → (last : List ShardBook) × HasRun first.issuer first.shards.items books lines answers now.host.shards.items last
 
   -- the lines that wait were looked up and are fewer than are checked together, and their answers fit a block that has
-  -- the answers to so many lines
-  pub record MaySettleAlone (alone : AloneHost S G) (lines : ℕ) : Type 0 where
+  -- the answers to so many lines; the text of these answers is due, and the record of each is in its shard's history
+  pub record MaySettleAlone (alone : AloneHost S G) (lines : ℕ) (due : List ℕ) : Type 0 where
     pub waiting : List (List ℕ)
     pub looked_up : AreLookUps alone.host.issuer waiting alone.ahead
     pub few : length alone.ahead < MOST_AHEAD
     pub fit : lines + length alone.ahead ≤ BLOCK_LINES
+    pub recorded : IsRecordedText alone.host due
 
   -- so does the answer to another line
-  pub record TakesMoreAlone (alone : AloneHost S G) (lines : ℕ) : Type 0 where
-    pub may_settle : MaySettleAlone alone lines
+  pub record TakesMoreAlone (alone : AloneHost S G) (lines : ℕ) (due : List ℕ) : Type 0 where
+    pub may_settle : MaySettleAlone alone lines due
     pub fits : lines + length alone.ahead < BLOCK_LINES
 
   -- it was loaded for this issuer and more than one caller, from the journals that the desk had under their names; of
@@ -73,10 +75,14 @@ module _ {S : Type 0} {G : Ghosts S} where
     pub text_is : text ≡ flat_map printed answers
     pub served : LanesServe now lines answers due waiting
 
-  -- all answers of its block were written, and none is to be taken; and another line may be taken
+  -- all answers of its block were written, and none of those that were given is due; and another line may be taken
   pub record OwesNone (host : Lanes S G) (lines : ℕ) : Type 0 where
     pub no_lines : lines ≡ 0
     pub none_due : due_in host ≡ 0
+    pub answered : List (List ℕ)
+    pub answers : List Answer
+    pub waiting : List (List ℕ)
+    pub served : LanesServe host answered answers [] waiting
 
   pub record TakesMore (host : Lanes S G) (lines : ℕ) : Type 0 where
     pub owes_none : OwesNone host lines
@@ -106,25 +112,25 @@ module _ {S : Type 0} {G : Ghosts S} where
   HasServed (Together first) lines text waiting (Together now) = HaveAnswered first lines text waiting now
   HasServed _ lines text waiting _ = ⊥
 
-  -- the lines that wait may be settled into a block that has the answers to so many lines
-  abbrev pub MaySettle : LineHost S G → ℕ → Type 0
-  MaySettle (Alone alone) lines = MaySettleAlone alone lines
-  MaySettle (Together host) lines = OwesNone host lines
+  -- the lines that wait may be settled into a block that has the answers to so many lines, and their text
+  abbrev pub MaySettle : LineHost S G → ℕ → List ℕ → Type 0
+  MaySettle (Alone alone) lines due = MaySettleAlone alone lines due
+  MaySettle (Together host) lines due = OwesNone host lines
 
   -- beside such a block another line may be taken
-  abbrev pub HasRoom : LineHost S G → ℕ → Type 0
-  HasRoom (Alone alone) lines = TakesMoreAlone alone lines
-  HasRoom (Together host) lines = TakesMore host lines
+  abbrev pub HasRoom : LineHost S G → ℕ → List ℕ → Type 0
+  HasRoom (Alone alone) lines due = TakesMoreAlone alone lines due
+  HasRoom (Together host) lines due = TakesMore host lines
 
   -- no line waits
   abbrev pub IsSettled : LineHost S G → Type 0
   IsSettled (Alone alone) = alone.ahead ≡ []
   IsSettled (Together host) = waiting_in host ≡ 0
 
-  -- no line waits, and beside a block that has the answers to so many lines one may be taken
+  -- no line waits, no answer is due, and beside a block that counts so many lines one may be taken
   pub record IsIdle (host : LineHost S G) (lines : ℕ) : Type 0 where
-    pub room : HasRoom host lines
-    pub may_settle : MaySettle host lines
+    pub room : HasRoom host lines []
+    pub may_settle : MaySettle host lines []
     pub settled : IsSettled host
 
   -- it has so many callers, has answered no line, and is idle

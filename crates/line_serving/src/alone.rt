@@ -1,6 +1,7 @@
 //! Lines that one caller answers: a line alone at once, and others once they were checked together.
 ghost use Rattle.std.specs.Prelude.{◌≡◌, ◌+◌, ◌<◌, ◌≤◌, ℕ, List, [], ◌∷◌, ◌++◌, length, map, false, is_err};
 ghost use Rattle.issuer_base.specs.OutsideFaults.{CountsFaults};
+ghost use Rattle.issuer_base.specs.Sink.{WritesAll};
 ghost use Rattle.issuer_setup.specs.IssuerSetup.{Setup};
 ghost use Rattle.line_checks.specs.LookedUp.{AreLookUps};
 ghost use Rattle.line_checks.specs.declared.lines_ahead.TheConstants.{MOST_AHEAD};
@@ -32,6 +33,7 @@ impl<S: Store> AloneHost<S> {
     ghost use Rattle.line_serving.specs.Leaving.{LeavesAnswered, LeavesLoaded};
     ghost use Rattle.line_serving.specs.Hosts.{HasAnswered};
     ghost use Rattle.line_serving.specs.Hosts.{MaySettleAlone, TakesMoreAlone};
+    ghost use Rattle.line_serving.specs.Durable.{IsDurableText, IsRecordedText};
 
     /// This host. No line waits.
     pub(crate) fn new(host: Solo<S>, ahead: LinesAhead) -> Self
@@ -47,8 +49,8 @@ impl<S: Store> AloneHost<S> {
 
     /// Whether the block is full once the lines that wait are answered.
     pub(crate) fn is_full(&self, block: &Block) -> bool
-        requires { MaySettleAlone self.now block.now.lines }
-        ensures { result ≡ false → TakesMoreAlone self.now block.now.lines }
+        requires { MaySettleAlone self.now block.now.lines block.now.text.items }
+        ensures { result ≡ false → TakesMoreAlone self.now block.now.lines block.now.text.items }
     {
         block.lines() + self.ahead.len() == BLOCK_LINES
     }
@@ -64,12 +66,12 @@ impl<S: Store> AloneHost<S> {
         has_next: bool,
         block: &mut Block,
     )
-        requires { TakesMoreAlone self.old block.old.lines }
+        requires { TakesMoreAlone self.old block.old.lines block.old.text.items }
         ensures taken { (first : Solo S S.Store) (lines : List (List ℕ)) (text : List ℕ) (waiting : List (List ℕ))
             → HasAnswered first lines text waiting self.old
             → TakesLine (λ lines text waiting. HasAnswered first lines text waiting self.new) lines text waiting
             line.now block.old.text.items block.new.text.items }
-        ensures open { MaySettleAlone self.new block.new.lines }
+        ensures open { MaySettleAlone self.new block.new.lines block.new.text.items }
     {
         if !has_next && self.ahead.is_empty() {
             return self.answer_at_once(rt, gate, number, line, block);
@@ -93,12 +95,14 @@ impl<S: Store> AloneHost<S> {
     )
         requires room { block.old.lines < BLOCK_LINES }
         requires none { self.old.ahead ≡ [] }
+        requires recorded { IsRecordedText self.old.host block.old.text.items }
         ensures taken { (first : Solo S S.Store) (lines : List (List ℕ)) (text : List ℕ) (waiting : List (List ℕ))
             → HasAnswered first lines text waiting self.old
             → TakesLine (λ lines text waiting. HasAnswered first lines text waiting self.new) lines text waiting
             line.now block.old.text.items block.new.text.items }
         ensures one_more { block.new.lines ≡ block.old.lines + 1 }
         ensures none { self.new.ahead ≡ [] }
+        ensures recorded { IsRecordedText self.new.host block.new.text.items }
     {
         gate.at(rt, number);
         let answer = self.host.authorise(line);
@@ -115,6 +119,7 @@ impl<S: Store> AloneHost<S> {
         ensures looked_up { (lines : List (List ℕ)) → AreLookUps self.old.host.issuer lines self.old.ahead
             → AreLookUps self.new.host.issuer (lines ++ line.now ∷ []) self.new.ahead }
         ensures one_more { length self.new.ahead ≡ length self.old.ahead + 1 }
+        ensures recorded { (due : List ℕ) → IsRecordedText self.old.host due → IsRecordedText self.new.host due }
     {
         let first = if self.ahead.is_empty() {
             number
@@ -132,12 +137,14 @@ impl<S: Store> AloneHost<S> {
     pub(crate) fn settle<R: Wait, G: Gate>(&mut self, rt: &R, gate: &G, block: &mut Block)
         requires room { block.old.lines + length self.old.ahead ≤ BLOCK_LINES }
         requires looked_up { (lines : List (List ℕ)) × AreLookUps self.old.host.issuer lines self.old.ahead }
+        requires recorded { IsRecordedText self.old.host block.old.text.items }
         ensures answered { (first : Solo S S.Store) (lines : List (List ℕ)) (text : List ℕ) (waiting : List (List ℕ))
             → HasAnswered first lines text waiting self.old
             → Settles (λ lines text waiting. HasAnswered first lines text waiting self.new) lines text waiting
             block.old.text.items block.new.text.items }
         ensures none { self.new.ahead ≡ [] }
         ensures count { block.new.lines ≡ block.old.lines + length self.old.ahead }
+        ensures recorded { IsRecordedText self.new.host block.new.text.items }
     {
         if self.ahead.is_empty() {
             return;
@@ -151,12 +158,14 @@ impl<S: Store> AloneHost<S> {
     fn settle_waiting<R: Wait, G: Gate>(&mut self, rt: &R, gate: &G, block: &mut Block)
         requires room { block.old.lines + length self.old.ahead ≤ BLOCK_LINES }
         requires looked_up { (lines : List (List ℕ)) × AreLookUps self.old.host.issuer lines self.old.ahead }
+        requires recorded { IsRecordedText self.old.host block.old.text.items }
         ensures answered { (first : Solo S S.Store) (lines : List (List ℕ)) (text : List ℕ) (waiting : List (List ℕ))
             → HasAnswered first lines text waiting self.old
             → Settles (λ lines text waiting. HasAnswered first lines text waiting self.new) lines text waiting
             block.old.text.items block.new.text.items }
         ensures none { self.new.ahead ≡ [] }
         ensures count { block.new.lines ≡ block.old.lines + length self.old.ahead }
+        ensures recorded { IsRecordedText self.new.host block.new.text.items }
     {
         self.ahead.check(self.host.issuer());
         for index in 0..self.ahead.len() {
@@ -178,17 +187,27 @@ impl<S: Store> AloneHost<S> {
         block: &mut Block,
         out: &mut W,
     ) -> Result<(), WriteFault>
-        requires { MaySettleAlone self.old block.old.lines }
+        requires { MaySettleAlone self.old block.old.lines block.old.text.items }
         ensures written { (first : Solo S S.Store) (lines : List (List ℕ)) (text : List ℕ) (waiting : List (List ℕ))
             → HasAnswered first lines text waiting self.old
             → WritesAnswers (λ lines text waiting. HasAnswered first lines text waiting self.new) lines text waiting
             block.old.text.items (W.held out.old) (W.held out.new) result }
         ensures none { block.new.text.items ≡ [] }
-        ensures room { TakesMoreAlone self.new block.new.lines }
+        ensures room { TakesMoreAlone self.new block.new.lines [] }
         ensures settled { self.new.ahead ≡ [] }
         ensures count { CountsFaults (W.faults out.old) (W.faults out.new) (is_err result) }
     {
         self.settle(rt, gate, block);
+        self.write_durable(block, out)
+    }
+
+    /// Writes all answers of the block. The record of each is durable before, in the store of its shard.
+    fn write_durable<W: Sink>(&self, block: &mut Block, out: &mut W) -> Result<(), WriteFault>
+        requires durable { IsDurableText self.now.host block.old.text.items }
+        ensures written { WritesAll (W.held out.old) (W.held out.new) result block.old.text.items }
+        ensures none { (block.new.text.items ≡ []) × (block.new.lines ≡ 0) }
+        ensures count { CountsFaults (W.faults out.old) (W.faults out.new) (is_err result) }
+    {
         block.write(out)
     }
 

@@ -33,8 +33,8 @@ impl<S: Store> LineHost<S> {
 
     /// Whether no other line is taken before the lines that wait are settled and the answers of the block are written.
     pub(crate) fn is_full(&self, block: &Block) -> bool
-        requires { MaySettle self.now block.now.lines }
-        ensures { result ≡ false → HasRoom self.now block.now.lines }
+        requires { MaySettle self.now block.now.lines block.now.text.items }
+        ensures { result ≡ false → HasRoom self.now block.now.lines block.now.text.items }
     {
         match self {
             LineHost::Alone(alone) => alone.is_full(block),
@@ -53,14 +53,14 @@ impl<S: Store> LineHost<S> {
         has_next: bool,
         block: &mut Block,
     )
-        requires room { HasRoom self.old block.old.lines }
+        requires room { HasRoom self.old block.old.lines block.old.text.items }
         requires kept { length line.now ≤ KEPT_BYTES }
         ensures taken { (first : LineHost S S.Store) (lines : List (List ℕ)) (text : List ℕ) (waiting : List (List ℕ))
             → HasServed first lines text waiting self.old
             → TakesLine (λ lines text waiting. HasServed first lines text waiting self.new) lines text waiting line.now
             block.old.text.items
             block.new.text.items }
-        ensures open { MaySettle self.new block.new.lines }
+        ensures open { MaySettle self.new block.new.lines block.new.text.items }
     {
         match self {
             LineHost::Alone(alone) => alone.take_line(rt, gate, number, line, has_next, block),
@@ -83,7 +83,7 @@ impl<S: Store> LineHost<S> {
         S: Send,
         W: Sink,
         G: Gate + Sync,
-        requires { MaySettle self.old block.old.lines }
+        requires { MaySettle self.old block.old.lines block.old.text.items }
         ensures written { (first : LineHost S S.Store) (lines : List (List ℕ)) (text : List ℕ)
             (waiting : List (List ℕ))
             → HasServed first lines text waiting self.old
@@ -113,7 +113,7 @@ impl<S: Store> LineHost<S> {
         S: Send,
         W: Sink,
         G: Gate + Sync,
-        requires { MaySettle self.old block.old.lines }
+        requires { MaySettle self.old block.old.lines block.old.text.items }
         ensures written { (first : LineHost S S.Store) (lines : List (List ℕ)) (text : List ℕ)
             (waiting : List (List ℕ))
             → HasServed first lines text waiting self.old

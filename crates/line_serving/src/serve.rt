@@ -51,7 +51,7 @@ impl Server {
         W: Sink,
         G: Gate + Sync,
         requires new { IsNew self.old }
-        requires room { HasRoom host.old 0 × MaySettle host.old 0 }
+        requires room { HasRoom host.old 0 [] × MaySettle host.old 0 [] }
         ensures served { (first : LineHost T T.Store) → HasServed first [] [] [] host.old
             → Serves (λ lines text. HasServed first (map kept lines) text [] host.new) (I.left source.old)
             (I.left source.new)
@@ -85,14 +85,14 @@ impl Server {
 
     /// Lets the host take the line in hand.
     fn take_line<R: Wait, T: Store, G: Gate>(&mut self, rt: &R, gate: &G, host: &mut LineHost<T>)
-        requires room { HasRoom host.old self.old.block.lines }
+        requires room { HasRoom host.old self.old.block.lines self.old.block.text.items }
         requires kept { length self.old.reader.line ≤ KEPT_BYTES }
         ensures taken { (first : LineHost T T.Store) (lines : List (List ℕ)) (text : List ℕ) (waiting : List (List ℕ))
             → HasServed first lines text waiting host.old
             → TakesLine (λ lines text waiting. HasServed first lines text waiting host.new) lines text waiting
             self.old.reader.line
             self.old.block.text.items self.new.block.text.items }
-        ensures open { MaySettle host.new self.new.block.lines }
+        ensures open { MaySettle host.new self.new.block.lines self.new.block.text.items }
         ensures reader { self.new.reader ≡ self.old.reader }
     {
         let number = u64::from(self.reader.number());
@@ -121,13 +121,14 @@ impl Server {
         T: Store + Send,
         W: Sink,
         G: Gate + Sync,
-        requires open { MaySettle host.old self.old.block.lines }
+        requires open { MaySettle host.old self.old.block.lines self.old.block.text.items }
         ensures written { (first : LineHost T T.Store) (lines : List (List ℕ)) (text : List ℕ) (waiting : List (List ℕ))
             → HasServed first lines text waiting host.old
             → WritesDue (λ lines text waiting. HasServed first lines text waiting host.new) lines text waiting
             self.old.block.text.items self.new.block.text.items self.old.reader self.new.reader (W.held out.old)
             (W.held out.new) result }
-        ensures room { OnOk result (HasRoom host.new self.new.block.lines × MaySettle host.new self.new.block.lines) }
+        ensures room { OnOk result (HasRoom host.new self.new.block.lines self.new.block.text.items
+            × MaySettle host.new self.new.block.lines self.new.block.text.items) }
         ensures settled { OnErr result (IsSettled host.new) }
         ensures reader { self.old.reader.lines ≤ self.new.reader.lines }
         ensures count { CountsFaults (W.faults out.old) (W.faults out.new) (is_err result) }
@@ -141,8 +142,8 @@ impl Server {
 
     /// Whether answers are to be written before more is read: no other line can be taken, or no whole line is in hand.
     fn is_due<T: Store>(&self, host: &LineHost<T>) -> bool
-        requires { MaySettle host.now self.now.block.lines }
-        ensures { result ≡ false → HasRoom host.now self.now.block.lines }
+        requires { MaySettle host.now self.now.block.lines self.now.block.text.items }
+        ensures { result ≡ false → HasRoom host.now self.now.block.lines self.now.block.text.items }
     {
         host.is_full(&self.block) || !self.reader.has_line()
     }
@@ -161,7 +162,7 @@ impl Server {
         T: Store + Send,
         W: Sink,
         G: Gate + Sync,
-        requires open { MaySettle host.old self.old.block.lines }
+        requires open { MaySettle host.old self.old.block.lines self.old.block.text.items }
         ensures ended { (first : LineHost T T.Store) (lines : List (List ℕ)) (text : List ℕ) (waiting : List (List ℕ))
             → HasServed first lines text waiting host.old
             → Finishes (λ lines text waiting. HasServed first lines text waiting host.new) lines text waiting

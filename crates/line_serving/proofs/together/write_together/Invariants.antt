@@ -1,5 +1,6 @@
 -- Rounds, one after another.
 use Rattle.std.proofs.Common.{◌≡◌, ◌+◌, ◌≤◌, List, [], ℕ, length}
+use Rattle.line_serving.specs.Durable.{OwesDurable}
 use Rattle.shared_callers.specs.Lanes.{waiting_in}
 use Rattle.shared_callers.specs.declared.lanes.Lanes.{Lanes}
 use Rattle.line_serving.specs.Hosts.{HaveAnswered}
@@ -14,6 +15,7 @@ invariant-loop-host g l = record {
       waiting;
   empty : (l.block.text.items ≡ []) × (l.block.lines ≡ 0);
   read : l.fn.reader.lines ≤ l.reader.lines;
+  durable : OwesDurable l.host;
   sink_stood : g.W.Sink.faults l.out ≡ g.W.Sink.faults l.initial.out;
 }
 

@@ -3,6 +3,7 @@ use Rattle.std.proofs.Common.{◌∷◌, [], ◌++◌, subst, sym}
 use Rattle.issuer_setup.specs.IssuerSetup.{Setup}
 use Rattle.line_checks.specs.LookedUp.{AreLookUps}
 use Rattle.line_serving.proofs.AloneSteps.{look-ups-more, waits-more}
+use Rattle.line_serving.proofs.DurableAlone.{recorded-moved}
 use Rattle.line_serving.proofs.alone.AloneHost.add.Goals as goal
 
 pub returns-clause-waits : goal.returns-clause-waits
@@ -17,3 +18,7 @@ returns-clause-looked_up g c = λ lines are.
     (sym c.look_ahead-found.ensures.same.0)
     (look-ups-more c.args.self.now.host.issuer lines c.args.line.now c.args.self.now.ahead c.add.new.self
     c.look_ahead-found.result c.add.ensures c.look_ahead-found.ensures.found are)
+
+pub returns-clause-recorded : goal.returns-clause-recorded
+returns-clause-recorded g c = λ due.
+    recorded-moved c.args.self.now.host c.look_ahead-found.new.self c.look_ahead-found.ensures.same.0 c.look_ahead-found.ensures.same.1 due

@@ -5,6 +5,7 @@ use Rattle.std.specs.Option.{option_map}
 use Rattle.issuer_setup.specs.IssuerSetup.{Setup}
 use Rattle.line_checks.specs.LookedUp.{AreLookUps}
 use Rattle.line_serving.proofs.AloneSteps.{first-of, found-there, from-place, parted-at, settling-none, settling-more, settles-alone}
+use Rattle.line_serving.proofs.DurableAlone.{recorded-more}
 use Rattle.line_serving.proofs.alone.AloneHost.settle_waiting.Goals as goal
 
 pub loop-index-init : goal.loop-index-init
@@ -18,6 +19,7 @@ loop-index-init g c =
       looked_up = (c.requires.looked_up.0, same c.requires.looked_up.0 c.requires.looked_up.1);
       waiting = c.check.ensures.count;
       count = let lines = c.args.block.now.lines in omega arith;
+      recorded = c.requires.recorded;
     }
 
 pub unwrap-found-requires : goal.unwrap-found-requires
@@ -54,6 +56,9 @@ loop-index-preserved g c =
       );
       waiting = before.waiting;
       count = omega (arith, before.count, c.add.ensures.lines);
+      recorded =
+          recorded-more c.loop-index.self.host c.answer-answer.new.self its.line c.answer-answer.result c.loop-index.block.text.items
+          c.add.new.self.text.items c.add.ensures.text (c.answer-answer.ensures.turn its.line its.first) before.recorded;
     }
 
 pub returns-clause-answered : goal.returns-clause-answered

@@ -2,6 +2,7 @@
 use Rattle.std.proofs.Common.{◌≡◌, ◌+◌, List, ℕ, drop, length}
 use Rattle.line_checks.specs.LookedUp.{AreLookUps}
 use Rattle.one_caller.specs.declared.solo.Solo.{Solo}
+use Rattle.line_serving.specs.Durable.{IsRecordedText}
 use Rattle.line_serving.specs.Hosts.{HasAnswered}
 use Rattle.line_serving.proofs.AloneSteps.{IsSettling, from-place}
 use Rattle.line_serving.proofs.alone.AloneHost.settle_waiting.Given as goal
@@ -14,4 +15,5 @@ invariant-loop-index g l = record {
   looked_up : (lines : List (List ℕ)) × AreLookUps l.self.host.issuer lines (drop l.index l.self.ahead);
   waiting : length l.self.ahead ≡ length l.fn.self.ahead;
   count : l.block.lines ≡ l.fn.block.lines + l.index;
+  recorded : IsRecordedText l.self.host l.block.text.items;
 }

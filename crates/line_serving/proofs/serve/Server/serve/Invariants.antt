@@ -12,7 +12,7 @@ invariant-loop-self g l = record {
       → HasRead (λ lines text waiting. HasServed first lines text waiting l.host)
       (g.I.Source.left l.initial.source) (g.I.Source.left l.source) (g.W.Sink.held l.initial.out) (g.W.Sink.held l.out)
       l.self.reader l.self.block.text.items;
-  room : HasRoom l.host l.self.block.lines × MaySettle l.host l.self.block.lines;
+  room : HasRoom l.host l.self.block.lines l.self.block.text.items × MaySettle l.host l.self.block.lines l.self.block.text.items;
   source_stood : g.I.Source.faults l.source ≡ g.I.Source.faults l.initial.source;
   sink_stood : g.W.Sink.faults l.out ≡ g.W.Sink.faults l.initial.out;
 }
