@@ -9,6 +9,7 @@ WITHOUT_PROGRAM = (
     "tests/replication --short",
     "tests/definitions --check",
     "tests/crates",
+    "tests/sinks",
     "tests/figures",
     "tests/make_vectors --check",
     "tests/kcv",
