@@ -18,7 +18,7 @@ use Rattle.host_loading.proofs.Places.{read-other, read-written}
 use Rattle.clearing_check.specs.declared.filed.Filed.{Filed}
 use Rattle.journal_reader.specs.declared.filing.FilingFault.{FilingFault}
 use Rattle.journal_reader.specs.declared.filing.NotFiled.{NotFiled}
-use Rattle.journal_reader.specs.Filing.{AreBefore, CountAt, FilesAll, FilesBefore, FilesJournal, HasRecords, IsSpared, StopsFiling}
+use Rattle.journal_reader.specs.Filing.{AreBefore, CountAt, FilesBefore, FilesJournal, HasRecords, IsSpared, StopsFiling}
 use Rattle.journal_reader.specs.Filing.{HoldsHistory, fails_at, filed_in, filed_records, is_bad, is_store_fault}
 use Rattle.journal_reader.proofs.Filed.{all-more}
 
@@ -177,12 +177,3 @@ module _ {S : Type 0} (G : Ghosts S) (issuer : Setup) where
                 (same_Some old store (sym first_is ∙ store_is))
                 (subst (λ (l : List Filed). StopsFiling issuer shard (G.bytes old) l new fault) so_far.filed_are stops);
           })
-
-  -- all are filed
-  pub files-all : (olds read : List S) (shard : ℕ) (book : List Filed) → AreFiled olds read shard book
-      → shard ≡ length olds → FilesAll G.bytes issuer olds book
-  files-all olds read shard book filed all = record {
-    histories = filed.histories;
-    have = record { count_is = filed.count_is ∙ all; each = filed.each };
-    filed_are = filed.filed_are;
-  }

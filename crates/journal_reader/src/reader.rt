@@ -52,7 +52,9 @@ impl RecordReader {
     ghost use Rattle.journal_reader.specs.Reading.{read_by};
 
     /// A reader that has read nothing. Only this call allocates.
-    pub fn new(alloc: Global) -> Result<Self, NoMemory> {
+    pub fn new(alloc: Global) -> Result<Self, NoMemory>
+        ensures { IfOk result (λ reader. (reader.taken ≡ 0) × (reader.records ≡ 0) × (ahead_of reader ≡ [])) }
+    {
         Ok(RecordReader {
             buffer: vec![in alloc; 0; BUFFER_BYTES]?,
             start: 0,
@@ -165,13 +167,12 @@ impl RecordReader {
         requires ahead { IsUnbroken (ahead_of self.old)
             × (length (ahead_of self.old) ≡ min (vec_len self.old.buffer) (S.size store.old - self.old.taken)) }
         requires within { self.old.taken ≤ S.size store.old }
-        ensures counted { self.new.records ≡ self.old.records }
         ensures given { (history : List Entry) → HasRead self.old (S.bytes store.old) history
             → IfOk result (Gives self.new (S.bytes store.old) history) }
         ensures stopped { (history : List Entry) → HasRead self.old (S.bytes store.old) history
             → IfErr result (Stops (S.bytes store.old) history) }
         ensures none { IfOk result (λ found. found ≡ None) }
-        ensures within { IsWithin self.new (S.size store.old) }
+        ensures kept { (self.new.records ≡ self.old.records) × IsWithin self.new (S.size store.old) }
         ensures only_read { IsOnlyRead S.size S.bytes S.disk S.room store.old store.new }
         ensures count { CountsFaults (S.faults store.old) (S.faults store.new) (has_failed result) }
     {
