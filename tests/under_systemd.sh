@@ -73,4 +73,36 @@ systemctl start $UNITS
 wait
 check with_it_they_are_answered "$(cat /out/asked)" "8 fresh"
 
+# The configuration encrypted, by the commands of deploy/README.md, "Keys at rest".
+CRED=/etc/issuer/0.cred
+decrypted() { systemd-creds decrypt --name=configuration $CRED - 2>/dev/null; }
+systemd-creds encrypt --name=configuration /etc/issuer/0.json $CRED
+check an_encrypted_configuration_is_what_it_was "$(decrypted | cmp - /etc/issuer/0.json && echo the same)" "the same"
+check it_is_under_a_key_of_roots_alone "$(stat -c '%U %a' /var/lib/systemd/credential.secret)" "root 400"
+for unit in issuer@ issuer-standby@; do
+    install -D -m 644 /usr/share/doc/issuer/examples/encrypted-configuration.conf /etc/systemd/system/$unit.service.d/keys.conf
+done
+systemctl daemon-reload
+systemctl restart issuer-standby@0 && systemctl restart issuer@0
+install -d -m 700 /run/keys
+mv /etc/issuer/0.json /run/keys/0.json
+mv /etc/issuer/template.json /run/keys/ 2>/dev/null
+kill -9 "$(main_of "$(active_unit)")"
+check both_units_start_without_it_in_clear "$(settled)" "active active"
+check and_lines_are_answered "$(ask 8)" "8 fresh"
+SECRET=/run/credentials/issuer@0.service/configuration
+check what_is_decrypted_is_in_memory "$(stat -f -c %T $SECRET)" ramfs
+check and_the_users_alone "$(stat -c '%U %a' $SECRET)" "issuer 400"
+check no_file_on_the_disk_has_a_key "$(grep -rliF "$(cat /mnt/key)" /etc/issuer /var/lib/issuer | wc -l)" 0
+check where_one_that_has_it_is_found "$(grep -liF "$(cat /mnt/key)" /run/keys/0.json)" /run/keys/0.json
+systemctl stop $UNITS
+cp $CRED /root/cred
+head -c 500 /root/cred > $CRED
+systemctl start issuer@0
+check a_torn_credential_starts_nothing "$(systemctl show -P ExecMainStatus issuer@0)" 243
+cp /root/cred $CRED
+systemctl start $UNITS
+check the_whole_one_starts_both_again "$(settled) $(ask 9)" "active active 8 fresh"
+check an_order_is_put_by_the_socket "$(issuer-order --socket /run/issuer-0/orders /run/issuer-standby-0/orders < /mnt/order | cut -d' ' -f1)" set
+
 journalctl -u issuer@0 -u issuer-standby@0 -o cat --no-pager
