@@ -24,78 +24,18 @@ It ends with 0 at SIGTERM, with 78 if NODE.json is wrong or all partitions are s
 that passes: start it again.
 """
 import argparse
-import signal
 import sys
-import time
 from collections.abc import Sequence
 from typing import NoReturn
 
-from issuer_host.replication import node_file, positions
-from issuer_host.replication.partition_node import STOPPED, PartitionNode
-from issuer_host.replication.rule import State
 from issuer_host.journals import shards_of_files
+from issuer_host.replication import node_file, positions
 from issuer_host.service.careful_start import shards_of
-from issuer_host.service.figures import KINDS_OF_NODE, Figures, kinds_at
 from issuer_host.service.journal_checks import create_journals
-from issuer_host.service.loops import new_loop
-from issuer_host.service.notices import notify
-from issuer_host.service.readiness import Readiness
 from issuer_host.service.refusal import Refusal, tell
 from issuer_host.statuses import Status
 
 NAME = "node"
-LOOK_SECONDS = 0.5
-STOP_SECONDS = 2.0
-# In these states a partition does its part.
-READY = (State.WAITING.value, State.BEGINNING.value, State.SERVING.value, STOPPED)
-
-
-class Node:
-    """All partitions of a machine, in one loop."""
-
-    def __init__(self, settings: node_file.NodeSettings) -> None:
-        self.status: int = Status.OK
-        self.loop = new_loop()
-        self.keeper = positions.Keeper(self.loop)
-        kinds = kinds_at(settings.figures, KINDS_OF_NODE)
-        self.partitions = [
-            PartitionNode(self.loop, settings, one, Figures(one.number, one.journal, kinds), self.keeper)
-            for one in settings.partitions
-        ]
-        self.readiness = Readiness(NAME)
-        self.is_stopping = False
-
-    def run(self) -> int:
-        for number in (signal.SIGTERM, signal.SIGINT):
-            signal.signal(number, lambda *_: self.loop.add_callback_threadsafe(self.stop))
-        for partition in self.partitions:
-            partition.guarded(partition.run)
-        self.look()
-        self.loop.start()
-        return self.status
-
-    def look(self) -> None:
-        now = time.monotonic()
-        for partition in self.partitions:
-            partition.guarded(lambda: partition.look(now))
-        states = [partition.state() for partition in self.partitions]
-        if all(state in READY for state in states):
-            self.readiness.tell()
-        self.readiness.look(", ".join(f"{states.count(state)} {state}" for state in sorted(set(states))))
-        if all(state == STOPPED for state in states) and not self.is_stopping:
-            self.status = Status.REFUSED
-            self.loop.stop()
-        self.loop.call_later(LOOK_SECONDS, self.look)
-
-    def stop(self) -> None:
-        """Ends all partitions: another machine goes on."""
-        if self.is_stopping:
-            return
-        self.is_stopping = True
-        notify(NAME, "STOPPING=1")
-        for partition in self.partitions:
-            partition.stop("the node ends")
-        self.loop.call_later(STOP_SECONDS, self.loop.stop)
 
 
 def begin(path: str) -> None:
@@ -137,7 +77,11 @@ def run(options: argparse.Namespace) -> int:
     if options.begin:
         begin(options.node)
         return Status.OK
-    return Node(node_file.read(options.node)).run()
+    settings = node_file.read(options.node)
+    # (what needs no broker needs no pika)
+    from issuer_host.replication.all_partitions import AllPartitions
+
+    return AllPartitions(settings).run()
 
 
 def main(words: Sequence[str]) -> int:

@@ -4,6 +4,7 @@
 - `starts`: the refusals of deploy/issuer-run, and the starts that it lets pass; deploy/look
 - `partitions`: cards cut into partitions, added to and moved with their journals; orders
 - `following`: what deploy/follow writes of journals that grow, are truncated, shortened or replaced
+- `nodes`: what a node of several machines begins with, positions beside journals, and journals that it truncates
 - `service`: what deploy/ knows of the program; the units and their exposure, the alert rules and the dashboard
 - `package`: the Debian package, twice the same, what it has and what it doesn't
 

@@ -1,0 +1,67 @@
+"""All partitions of one machine, in one loop: the machine's node."""
+import signal
+import time
+
+from issuer_host.replication import positions
+from issuer_host.replication.node_file import NodeSettings
+from issuer_host.replication.partition_node import STOPPED, PartitionNode
+from issuer_host.replication.rule import State
+from issuer_host.service.figures import KINDS_OF_NODE, Figures, kinds_at
+from issuer_host.service.loops import new_loop
+from issuer_host.service.notices import notify
+from issuer_host.service.readiness import Readiness
+from issuer_host.statuses import Status
+
+NAME = "node"
+LOOK_SECONDS = 0.5
+STOP_SECONDS = 2.0
+# In these states a partition does its part.
+READY = (State.WAITING.value, State.BEGINNING.value, State.SERVING.value, STOPPED)
+
+
+class AllPartitions:
+    """The partitions of NODE.json."""
+
+    def __init__(self, settings: NodeSettings) -> None:
+        self.status: int = Status.OK
+        self.loop = new_loop()
+        self.keeper = positions.Keeper(self.loop)
+        kinds = kinds_at(settings.figures, KINDS_OF_NODE)
+        self.partitions = [
+            PartitionNode(self.loop, settings, one, Figures(one.number, one.journal, kinds), self.keeper)
+            for one in settings.partitions
+        ]
+        self.readiness = Readiness(NAME)
+        self.is_stopping = False
+
+    def run(self) -> int:
+        for number in (signal.SIGTERM, signal.SIGINT):
+            signal.signal(number, lambda *_: self.loop.add_callback_threadsafe(self.stop))
+        for partition in self.partitions:
+            partition.guarded(partition.run)
+        self.look()
+        self.loop.start()
+        return self.status
+
+    def look(self) -> None:
+        now = time.monotonic()
+        for partition in self.partitions:
+            partition.guarded(lambda: partition.look(now))
+        states = [partition.state() for partition in self.partitions]
+        if all(state in READY for state in states):
+            self.readiness.tell()
+        self.readiness.look(", ".join(f"{states.count(state)} {state}" for state in sorted(set(states))))
+        if all(state == STOPPED for state in states) and not self.is_stopping:
+            self.status = Status.REFUSED
+            self.loop.stop()
+        self.loop.call_later(LOOK_SECONDS, self.look)
+
+    def stop(self) -> None:
+        """Ends all partitions: another machine goes on."""
+        if self.is_stopping:
+            return
+        self.is_stopping = True
+        notify(NAME, "STOPPING=1")
+        for partition in self.partitions:
+            partition.stop("the node ends")
+        self.loop.call_later(STOP_SECONDS, self.loop.stop)
