@@ -295,6 +295,24 @@ class Room:
             channel.queue_delete(broker.stream_of(number))
         self.declare()
 
+    def served_last(self, number: int) -> Machine:
+        """Returns the machine that the last barrier names, by the positions of all."""
+        _, _, name = max(machine.position(number)["barrier"] for machine in self.machines)
+        return next(machine for machine in self.machines if machine.name == name)
+
+    def begin_anew(self, number: int, chosen: Machine) -> None:
+        """Begins a stream anew from a machine's journals, as docs/OPERATIONS.md says."""
+        self.make_anew(number)
+        for machine in self.machines:
+            os.remove(f"{machine.journal(number)}.position")
+            if machine is not chosen:
+                for name in os.listdir(os.path.dirname(machine.journal(number))):
+                    os.remove(os.path.join(os.path.dirname(machine.journal(number)), name))
+                for ending in (*(f".{shard:02d}.v2" for shard in range(SHARDS)), ".work"):
+                    shutil.copyfile(chosen.journal(number) + ending, machine.journal(number) + ending)
+            machine.run("--begin", machine.file)
+            machine.start()
+
     def messages(self, number: int) -> list[Message]:
         """Returns all messages of a partition's stream, up to one that this writes."""
         end = f"mark end.{time.monotonic_ns()}\n"

@@ -272,7 +272,7 @@ class PartitionNode:
 
     def begin_host(self) -> None:
         assert self.journals is not None
-        self.journals.end_standby(lambda: self.guarded(self.start_host))
+        self.journals.end_standby(lambda: self.guarded(self.keep_barrier))
 
     def end_host(self) -> None:
         assert self.journals is not None
@@ -312,6 +312,24 @@ class PartitionNode:
             self.replying.settle(entry, False)
 
     # The host
+
+    def keep_barrier(self) -> None:
+        """Has the position name the barrier before the first reply: so a person finds who served last."""
+        position, before = self.position(), self.kept
+        assert self.bridge is not None and self.journals is not None and before is not None
+        bridge, barrier, grown = self.bridge, self.bridge.barrier, self.journals.grown(before, position)
+        self.waiting = None
+
+        def kept(fault: Optional[OSError]) -> None:
+            if bridge is not self.bridge or bridge.barrier != barrier:
+                return
+            if fault is not None:
+                self.failed(fault)
+                return
+            self.kept = position
+            self.guarded(self.start_host)
+
+        self.keeper.add(lambda: positions.keep(self.settings.journal, position, grown), kept)
 
     def start_host(self) -> None:
         """Starts the host, which gets what was delivered so far."""
@@ -430,10 +448,9 @@ class PartitionNode:
 
     def keep_position(self) -> None:
         """Writes a position, once the journals have what counts there."""
-        assert self.bridge is not None and self.stream is not None and self.journals is not None
+        assert self.journals is not None
         if self.waiting is None:
-            counts, sizes = self.journals.counts(), self.journals.sizes()
-            self.waiting = Position(*self.stream.place, self.bridge.count.barrier, counts, sizes)
+            self.waiting = self.position()
         position, before = self.waiting, self.kept
         if self.is_keeping or not self.journals.are_there(position):
             return
@@ -447,6 +464,12 @@ class PartitionNode:
         self.keeper.add(
             lambda: positions.keep(journal, position, grown), lambda fault: self.position_kept(position, fault)
         )
+
+    def position(self) -> Position:
+        """Returns the position of what was read."""
+        assert self.bridge is not None and self.stream is not None and self.journals is not None
+        counts, sizes = self.journals.counts(), self.journals.sizes()
+        return Position(*self.stream.place, self.bridge.count.barrier, counts, sizes)
 
     def position_kept(self, position: Position, fault: Optional[OSError]) -> None:
         self.is_keeping = False
