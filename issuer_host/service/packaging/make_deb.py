@@ -43,6 +43,7 @@ COMMANDS = {
     "follow": "issuer-follow",
     "gateway": "issuer-gateway",
     "look": "issuer-look",
+    "node": "issuer-node",
 }
 UNIT, STANDBY, GATEWAY = "issuer@.service", "issuer-standby@.service", "issuer-gateway.service"
 # A drop-in of the first two.
