@@ -14,9 +14,8 @@ use issuer_base::Request;
 use key_derive::joined;
 use std::marker::Model;
 
-/// The fewest cryptograms of triple DES that are worth lanes. So few take longer there than one by one, but lanes look up
-/// by no key.
-pub const FEWEST_IN_LANES: usize = 16;
+/// The fewest cryptograms of triple DES that are worth lanes: somewhat more than where both ways take as long.
+pub const FEWEST_IN_LANES: usize = 48;
 
 /// Up to 128 cryptograms of triple DES that are to be checked, and all that they depend on. Each part of all checks is in
 /// a list of its own, as the lanes take it.
