@@ -79,8 +79,8 @@ where
     ensures fewer { MatchResult result (λ _. half.new.waiting + length reader.new.ahead ≤ length reader.old.ahead)
         (λ _. half.new.waiting ≡ 0) }
     ensures rooms { (lane_rooms lanes.new ≡ lane_rooms lanes.old) × HasSameRooms half.old half.new }
-    ensures block { (block.new.text.items ≡ []) × (block.new.lines ≡ 0) }
-    ensures faults { CountsFaults (W.faults out.old) (W.faults out.new) (is_err result) }
+    ensures after { (block.new.text.items ≡ []) × (block.new.lines ≡ 0)
+        × CountsFaults (W.faults out.old) (W.faults out.new) (is_err result) }
 {
     let given = half.give_lines(lanes);
     let written = exchange_beside(rt, host, gate, half, reader, block, out, lanes);
