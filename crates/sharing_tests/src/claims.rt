@@ -109,10 +109,9 @@ fn join_all(
     won: &mut Vec<Vec<u16>>,
 )
     requires seat { IsOf seat.old words.now }
-    requires new { HaveTried [] (view_of seat.old) × (won.old.items ≡ []) }
+    requires new { HaveTried [] (view_of seat.old) × (won.old.items ≡ []) × (vec_len callers ≤ vec_capacity won.old) }
     requires callers { All (λ caller. IsOf caller.seat words.now × HasTried COUNTERS caller.won.items (view_of caller.seat)) callers.items }
     requires whole { IsWhole ((view_of seat.old).names ++ flat_map (λ caller. (view_of caller.seat).names) callers.items) }
-    requires room { vec_len callers ≤ vec_capacity won.old }
     ensures seat { IsOf seat.new words.now }
     ensures tried { HaveTried (map (λ list. list.items) won.new.items) (view_of seat.new) }
     ensures count { vec_len won.new ≡ vec_len callers }

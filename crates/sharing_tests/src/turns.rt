@@ -56,8 +56,8 @@ fn count_item(tallies: &Tallies, caller: &mut Caller, shard: u8, mut tally: Tall
     requires tally { StandsAt ⟦<Tally as Logged<u64, u8>>⟧.stands tally (view_of caller.old.seat).seen shard }
     requires added { HasAdded caller.old.places.items (view_of caller.old.seat) }
     requires room { vec_len caller.old.places < vec_capacity caller.old.places }
-    ensures seat { IsOf caller.new.seat tallies.now × ((view_of caller.new.seat).turn ≡ Inside shard) }
-    ensures names { (view_of caller.new.seat).names ≡ (view_of caller.old.seat).names }
+    ensures seat { IsOf caller.new.seat tallies.now × ((view_of caller.new.seat).turn ≡ Inside shard)
+        × ((view_of caller.new.seat).names ≡ (view_of caller.old.seat).names) }
     ensures tally { StandsAt ⟦<Tally as Logged<u64, u8>>⟧.stands result (view_of caller.new.seat).seen shard }
     ensures added { HasAdded caller.new.places.items (view_of caller.new.seat) }
     ensures room { (vec_len caller.new.places ≤ vec_len caller.old.places + 1) × (vec_capacity caller.new.places ≡ vec_capacity caller.old.places) }
