@@ -73,8 +73,8 @@ MEANINGS = {
     Status.JOURNAL_WRONG: Meaning(
         "a line of a journal is no valid record under this configuration: see `A journal that doesn't load` in"
         " docs/FORMATS.md",
-        "line {second} of shard {first}'s journal {new} is no record, none that may come there under this"
-        " configuration, or no copy of the old journal's",
+        "is {config} the configuration of these journals? Under it line {second} of shard {first}'s journal {new} is"
+        " no record, none that may come there, or no copy of the old journal's",
         numbers=2,
         ends_again=True,
     ),

@@ -16,8 +16,8 @@ LEFT = {"serve": "what was answered is in the journals", "standby": "what was ta
 # The word of a last line about an old journal.
 OLD = "old"
 OF_OLD_JOURNAL = (
-    "line {second} of shard {first}'s old journal {old} is no record, or none that may come there under this"
-    " configuration"
+    "is {config} the configuration of these journals? Under it line {second} of shard {first}'s old journal {old} is"
+    " no record, or none that may come there"
 )
 
 
