@@ -3,6 +3,7 @@ pub mod ClearingLine
 pub mod Verdicts
 pub mod Records
 pub mod AtcPages
+pub mod NextOpen
 pub mod OpenCounts
 pub mod Inside
 pub mod ClearText

@@ -1,12 +1,13 @@
 //! The book of a clearing check.
-ghost use Rattle.std.specs.Prelude.{◌≡◌, ◌++◌, [], length, slice_get, option_map, IfOk, OnOk, OnErr};
+ghost use Rattle.std.specs.Prelude.{◌≡◌, ◌++◌, [], length, drop, slice_get, option_map, IfOk, OnOk, OnErr, MatchOption};
 ghost use Rattle.std.specs.List.{list_any, count_by};
 ghost use Rattle.std.specs.Option.{option_to_list};
 ghost use Rattle.clearing_check.specs.Records.{has_atc, is_certified, opens, place_of};
+ghost use Rattle.clearing_check.specs.NextOpen.{IsNextOpen};
 ghost use Rattle.clearing_check.specs.Verdicts.{filed_of, verdict, after_line};
 
 use crate::filed::Filed;
-use crate::filed_records::FiledRecords;
+use crate::filed_records::{FiledRecords, OpenRecord};
 use crate::presented::present;
 use crate::verdict::{Verdict, verdict_by};
 use issuer_base::{Entry, NoMemory};
@@ -89,6 +90,14 @@ impl Book {
         ensures { result ≡ option_map place_of (slice_get (opens self.now) index) }
     {
         self.records.left(index)
+    }
+
+    /// The first open record from this number on; the first record has number 0. `None` exactly if there is none. So all
+    /// open records are listed in one pass, in the order of [`Book::left`].
+    pub fn next_open(&self, from: usize) -> Option<OpenRecord>
+        ensures { MatchOption result (opens (drop from self.now) ≡ []) (IsNextOpen self.now from) }
+    {
+        self.records.next_open(from)
     }
 
     /// How many records are certified. This reads all records.

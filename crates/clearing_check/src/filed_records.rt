@@ -1,7 +1,8 @@
 //! Records, filed for lookup by card and ATC.
-ghost use Rattle.std.specs.Prelude.{◌≡◌, ◌+◌, ◌<◌, ◌++◌, [], ◌∷◌, length, slice_get, option_map, find, count_by, IfOk, OnOk, OnErr};
+ghost use Rattle.std.specs.Prelude.{◌≡◌, ◌+◌, ◌<◌, ◌++◌, [], ◌∷◌, length, drop, slice_get, option_map, find, count_by, IfOk, OnOk, OnErr, MatchOption};
 ghost use Rattle.std.specs.List.{position_or_len};
 ghost use Rattle.clearing_check.specs.Records.{has_atc, is_certified, opens, place_of, certify};
+ghost use Rattle.clearing_check.specs.NextOpen.{IsNextOpen};
 
 use crate::atc_pages::AtcPages;
 use crate::filed::Filed;
@@ -18,6 +19,19 @@ const GROUPS: usize = 64;
 
 /// How many records in a row are a block.
 const BLOCK: usize = GROUP * GROUPS;
+
+/// An open record, and where to go on from it.
+#[derive(Clone, Copy)]
+pub struct OpenRecord {
+    /// The number of its shard, from 0.
+    pub shard: u8,
+
+    /// Its index in the shard's journal.
+    pub place: u64,
+
+    /// The number of the record after it.
+    pub next: usize,
+}
 
 /// Records, filed for lookup by card and ATC.
 ///
@@ -118,6 +132,25 @@ impl FiledRecords {
         let (group, left) = self.groups.skip(block * GROUPS, left);
         let start = (group * GROUP).min(self.records.len());
         nth_open(&self.records[start..], left)
+    }
+
+    /// The first open record from this number on. `None` exactly if there is none. This reads the records up to it.
+    pub fn next_open(&self, from: usize) -> Option<OpenRecord>
+        ensures { MatchOption result (opens (drop from self.now) ≡ []) (IsNextOpen self.now from) }
+    {
+        let mut next = from;
+        'records: while next < self.records.len() {
+            let filed = &self.records[next];
+            next += 1;
+            if is_open(filed) {
+                return Some(OpenRecord {
+                    shard: filed.shard,
+                    place: filed.place,
+                    next,
+                });
+            }
+        }
+        None
     }
 
     /// How many records are certified. This reads all records.

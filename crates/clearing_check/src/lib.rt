@@ -13,6 +13,6 @@ mod verdict;
 
 pub use book::Book;
 pub use filed::Filed;
-pub use filed_records::FiledRecords;
+pub use filed_records::{FiledRecords, OpenRecord};
 pub use lines::{write_open, write_total, write_verdict};
 pub use verdict::Verdict;

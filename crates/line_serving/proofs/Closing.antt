@@ -2,7 +2,7 @@
 use Rattle.std.proofs.Common.{◌≡◌, ℕ, zero, suc, ◌+◌, List, [], ◌∷◌, ◌++◌, take, drop, Option, None, Some, Ok}
 use Rattle.std.proofs.Common.{refl, sym, ap, subst, ◌∙◌, append-nil, append_assoc, add-one}
 use Rattle.std.specs.List.{flat_map, slice_get}
-use Rattle.std.specs.Prelude.{Result}
+use Rattle.std.specs.Prelude.{IsSome, MatchOption, Result}
 use Rattle.std.specs.Io.KnownBytes.{Appends}
 use Rattle.std.proofs.KnownBytes.{Appends-nil, Appends-trans}
 use Rattle.issuer_base.specs.declared.faults.WriteFault.{WriteFault}
@@ -68,6 +68,22 @@ opens-parts [] (suc n) = refl
 opens-parts (first ∷ places) (suc n) =
     ap (λ t. open_text first ++ t) (opens-parts places n)
     ∙ sym (append_assoc (open_text first) (flat_map open_text (take n places)) (flat_map open_text (drop n places)))
+
+-- what isn't None is some
+pub left-some : {X : Type 0} (found : Option X) (N : Type 0) (P : X → Type 0) → MatchOption found N P → (N → ⊥) → IsSome found
+left-some None N P none not_none = absurd (not_none none)
+left-some (Some x) N P some not_none = refl
+
+-- an element that is the first of those from an index on is at this index, and the others are from the next one on
+pub drop-here : {X : Type 0} (xs : List X) (n : ℕ) (y : X) (ys : List X) → drop n xs ≡ y ∷ ys
+    → (slice_get xs n ≡ Some y) × (drop (suc n) xs ≡ ys)
+drop-here [] zero y ys is = absurd (let e : [] ≡ y ∷ ys = is in cc)
+drop-here [] (suc n) y ys is = absurd (let e : [] ≡ y ∷ ys = is in cc)
+drop-here (x ∷ xs) zero y ys is = (
+  let e : x ∷ xs ≡ y ∷ ys = is in (let same : x ≡ y = cc in ap Some same),
+  let e : x ∷ xs ≡ y ∷ ys = is in (let same : xs ≡ ys = cc in same),
+)
+drop-here (x ∷ xs) (suc n) y ys is = drop-here xs n y ys is
 
 -- a prefix of the first lines is one of the whole text
 pub front-whole : (places : List (ℕ × ℕ)) (n : ℕ) (place : ℕ × ℕ) (total : List ℕ) (first now : Option (List ℕ))

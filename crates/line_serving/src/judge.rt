@@ -155,10 +155,12 @@ impl Judge {
         ensures written { WritesAll (W.held out.old) (W.held out.new) result (closing_text book.now) }
         ensures count { CountsFaults (W.faults out.old) (W.faults out.new) (is_err result) }
     {
-        for index in 0..book.open_count() {
-            let (shard, place) = book.left(index).unwrap();
-            write_open(shard, place, &mut self.line);
+        let mut next = 0;
+        for _ in 0..book.open_count() {
+            let found = book.next_open(next).unwrap();
+            write_open(found.shard, found.place, &mut self.line);
             self.put_line(out)?;
+            next = found.next;
         }
         write_total(book.certified_count(), book.open_count(), &mut self.line);
         self.put_line(out)?;

@@ -76,6 +76,16 @@ fn lists_the_open_records(rt: HostRuntime) -> Result<(), Fail> {
     }
     let count = (0..COUNT).filter(|number| is_open(*number)).count() as u64;
     assert!(rt; records.left(count).is_none());
+    let mut next = 0;
+    for number in (0..COUNT).filter(|number| is_open(*number)) {
+        let found = records.next_open(next).ok_or("an open record")?;
+        assert!(rt;
+            (found.shard, found.place) == (record(number).shard, number),
+            "the record {number}"
+        );
+        next = found.next;
+    }
+    assert!(rt; records.next_open(next).is_none());
     assert_eq!(rt; records.open_count(), count);
     assert_eq!(rt; records.certified_count(), COUNT.div_ceil(7));
     Ok(())
