@@ -37,6 +37,7 @@ use Rattle.issuer_top.specs.Stopping.{EndsServing}
 use Rattle.issuer_top.specs.ReadAgain.{StayLoaded, FailOnlyAt, StopsReading, failed_at, none_fails, stop_of_reading}
 use Rattle.issuer_top.specs.Clearing.{LoadsToClear, FilesBooks, ChecksLines, ways_to_clear}
 use Rattle.issuer_top.specs.Ways.{EndsBy}
+use Rattle.issuer_top.proofs.Accounting.{accounts-all}
 use Rattle.issuer_top.proofs.EndingSteps.{told-given, ends_by_stop, ends_at_once, StopsAtOnce}
 use Rattle.issuer_top.proofs.ReadingSteps.{are-read, fail-read, fail-same, fails-at, stops-reading}
 
@@ -202,6 +203,7 @@ module _ (config clearing journal : List ℕ) (seen : Seen) (issuer : Setup) (sa
           record {
             lines = lines-checked clear_text AreAllLines (Appends seen.sink.held_before held) serves;
             which = serves.which;
+            accounted = accounts-all issuer journal seen.desk.logs seen.journals stay records serves.asked filed;
           },
           written,
         )
@@ -225,6 +227,7 @@ module _ (config clearing journal : List ℕ) (seen : Seen) (issuer : Setup) (sa
           due = inr (inr (record {
             lines = lines-checked clear_text AreAllLines (AppendsFront seen.sink.held_before held) whole;
             which = whole.which;
+            accounted = accounts-all issuer journal seen.desk.logs seen.journals stay records whole.asked filed;
           }));
           front =
               subst (λ (h : Option (List ℕ)). AppendsFront seen.sink.held_before h whole.text) (sym ends.same)

@@ -6,9 +6,10 @@ mod Commands
 pub mod EndingSteps
 pub mod InOrder
 pub mod ReadingSteps
+pub mod ReplicaLaws
+pub mod Accounting
 pub mod ClearingSteps
 pub mod ExportingSteps
-pub mod ReplicaLaws
 pub mod StandingSteps
 pub mod StandbyRestarts
 pub mod FillingSteps

@@ -97,7 +97,7 @@ book-history (history ∷ histories) zero book is =
     ap (λ (b : ShardBook). Some b.history) (same_Some (book_of history) book is)
 book-history (history ∷ histories) (suc shard) book is = book-history histories shard book is
 
-book-at : (books : List ShardBook) (shard : ℕ) (history : List Entry)
+pub book-at : (books : List ShardBook) (shard : ℕ) (history : List Entry)
     → slice_get (histories_of books) shard ≡ Some history
     → (book : ShardBook) × (slice_get books shard ≡ Some book) × (book.history ≡ history)
 book-at [] shard history at = absurd (let e : None ≡ Some history = at in cc)

@@ -8,11 +8,12 @@ use Rattle.answer_text.specs.declared.stop_line.Stop.TheVariants.{ReadFault, Sto
 use Rattle.issuer_setup.specs.IssuerSetup.{Setup}
 use Rattle.line_reader.specs.Lines.{lines}
 use Rattle.line_reader.specs.Reading.{IsWithinLimits}
-use Rattle.host_loading.specs.Books.{ShardBook}
+use Rattle.host_loading.specs.Books.{ShardBook, histories_of}
 use Rattle.command_line.specs.Command.{IsClear}
 use Rattle.line_blocks.specs.Answered.{WasRead, AreAllLines, AreWholeLines, AreLinesBefore, AreFirstLines}
 use Rattle.clearing_check.specs.declared.filed.Filed.{Filed}
 use Rattle.clearing_check.specs.ClearText.{clear_text, verdicts_text}
+use Rattle.journal_reader.specs.Accounts.{AccountsFor}
 use Rattle.journal_reader.specs.Filing.{filed_records}
 use Rattle.journal_reader.specs.declared.filing.FilingFault.{FilingFault}
 use Rattle.desk_host.specs.SeenStores.{SeenJournals}
@@ -59,10 +60,20 @@ pub record ChecksLines (text_of : Setup → List Filed → List (List ℕ) → L
   pub was_read : WasRead file read input.left
   pub text_is : text ≡ text_of loaded.issuer records asked
 
--- status 0: all lines of the clearing file were checked
+-- the check of these lines accounts for each approval of the books' histories, once: the records that were filed are
+-- theirs
+pub record AccountsForAll (issuer : Setup) (books : List ShardBook) (records : List Filed) (asked : List (List ℕ))
+    : Type 0 where
+  pub records_are : records ≡ filed_records issuer (histories_of books)
+  pub accounts : AccountsFor issuer (histories_of books) asked
+
+-- status 0: all lines of the clearing file were checked. Where the stores' bytes are observable, each approval of the
+-- journals is accounted for, once
 pub record IsCleared (config clearing journal : List ℕ) (seen : Seen) (text : List ℕ) : Type 0 where
   pub lines : ChecksLines clear_text config clearing journal seen text
   pub which : AreAllLines lines.file lines.read lines.asked
+  pub accounted : AreObservable seen.journals.stores
+      → AccountsForAll lines.loaded.issuer lines.loaded.stay.first lines.records lines.asked
 
 -- the first lines of the clearing file were judged
 pub record IsCheckBegun (config clearing journal : List ℕ) (seen : Seen) (text : List ℕ) : Type 0 where
