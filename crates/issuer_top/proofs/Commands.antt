@@ -19,9 +19,9 @@ use Rattle.command_line.proofs.FeedNames.{standby-no_fill, standby-no_pin, stand
 use Rattle.command_line.proofs.PinOrders.{one-order, pin-no_command, pin-no_fill, pin-no_world}
 use Rattle.issuer_top.specs.Clearing.{RunsClear, ways_to_clear}
 use Rattle.issuer_top.specs.Exporting.{RunsExport, ways_to_export}
-use Rattle.issuer_top.specs.Filling.{ways_to_fill}
+use Rattle.issuer_top.specs.Filling.{RunsFill, ways_to_fill}
 use Rattle.issuer_top.specs.PinChanges.{RunsPin, ways_to_change}
-use Rattle.issuer_top.specs.Played.{ways_to_play}
+use Rattle.issuer_top.specs.Played.{RunsWorld, ways_to_play}
 use Rattle.issuer_top.specs.Refusing.{RunsAlone, ways_to_refuse}
 use Rattle.issuer_top.specs.Seen.{Seen}
 use Rattle.issuer_top.specs.Serving.{RunsServe, ways_to_serve}

@@ -12,6 +12,7 @@ pub mod ClearingSteps
 pub mod ExportingSteps
 pub mod StandingSteps
 pub mod StandbyRestarts
+pub mod ReplicaCrashes
 pub mod FillingSteps
 pub mod PinLines
 pub mod PinSteps

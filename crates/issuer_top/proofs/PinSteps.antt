@@ -2,9 +2,9 @@
 use Rattle.std.proofs.Common.{◌≡◌, ℕ, ◌⊎◌, List, Option, None, Some, inl, inr, ⊎_elim, refl, sym, ap, ◌∙◌}
 use Rattle.issuer_base.specs.OutsideFaults.{Rose}
 use Rattle.answer_text.specs.declared.stop_line.Stop.{Stop}
-use Rattle.answer_text.specs.declared.stop_line.Stop.TheVariants.{Config, ReadFault}
-use Rattle.answer_text.specs.declared.stop_line.Stop.TheVariants.{NoMemory}
-use Rattle.answer_text.specs.declared.stop_line.Stop.TheVariants.{NoKey}
+use Rattle.answer_text.specs.declared.stop_line.Stop.TheVariants.{Usage, Config, ReadFault, StoreFault, BadJournal}
+use Rattle.answer_text.specs.declared.stop_line.Stop.TheVariants.{BadOldJournal, NoMemory, TooLong, BadDol, BadData}
+use Rattle.answer_text.specs.declared.stop_line.Stop.TheVariants.{BadFeed, NoKey}
 use Rattle.des_block.specs.declared.Key16.{Key16}
 use Rattle.issuer_setup.specs.IssuerSetup.{Setup}
 use Rattle.command_line.specs.Command.{PinOrder, IsPin}

@@ -1,5 +1,5 @@
 -- The ways that showing ends, from what its parts did.
-use Rattle.std.proofs.Common.{ℕ, List, Ok, Err, inr, refl}
+use Rattle.std.proofs.Common.{◌≡◌, ℕ, List, Option, Ok, Err, inr, refl}
 use Rattle.std.specs.Prelude.{Result, is_err}
 use Rattle.issuer_base.specs.OutsideFaults.{CountsFaults}
 use Rattle.issuer_base.specs.Sink.{WritesAll}

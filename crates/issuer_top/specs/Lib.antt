@@ -13,6 +13,7 @@ pub mod ReadAgain
 pub mod Clearing
 pub mod Exporting
 pub mod Standing
+pub mod Replicas
 pub mod PinChanges
 pub mod Played
 pub mod Filling

@@ -19,5 +19,7 @@ mod top_call;
 
 pub use ended::Ended;
 pub use one_caller::every_image_loads_again;
-pub use restart::every_image_of_a_standby_loads_again;
+pub use restart::{
+    a_crash_leaves_a_standby_a_prefix_of_its_primary, every_image_of_a_standby_loads_again,
+};
 pub use top_call::issue;
