@@ -40,9 +40,12 @@ TRIES = 5
 class Machine:
     """One machine: its NODE.json, its journals, and its node."""
 
-    def __init__(self, room: str, name: str, url_file: str, program: str, partitions: Sequence[int]) -> None:
+    def __init__(
+        self, room: str, name: str, url_file: str, program: str, partitions: Sequence[int], callers: int = 1
+    ) -> None:
         self.room = os.path.join(room, name)
         self.name = name
+        self.callers = callers
         self.partitions = partitions
         self.process: "Optional[subprocess.Popen[bytes]]" = None
         # Where the log of the node begins that runs.
@@ -71,7 +74,7 @@ class Machine:
         with open(os.open(config, os.O_CREAT | os.O_WRONLY, 0o600), "w", encoding="utf-8") as text:
             json.dump({**found, "table": with_account_row(found["table"])}, text)
         files = {"configuration": config, "journal": journal, "orders": self.socket(number)}
-        return {"number": number, "callers": 1, **files}
+        return {"number": number, "callers": self.callers, **files}
 
     def journal(self, number: int) -> str:
         return partition_journal(self.room, number)
@@ -178,8 +181,11 @@ class History(NamedTuple):
 class Room:
     """A folder with machines, and partitions of their own at the broker."""
 
-    def __init__(self, folder: str, private: PrivateBroker, program: str, partitions: Sequence[int]) -> None:
+    def __init__(
+        self, folder: str, private: PrivateBroker, program: str, partitions: Sequence[int], callers: int = 1
+    ) -> None:
         self.folder = folder
+        self.callers = callers
         self.private = private
         self.program = program
         self.partitions = partitions
@@ -200,13 +206,19 @@ class Room:
             raise RuntimeError("".join(machine.said() for machine in self.machines))
 
     def machine(self, name: str) -> Machine:
-        found = Machine(self.folder, name, self.private.url_file, self.program, self.partitions)
+        found = Machine(self.folder, name, self.private.url_file, self.program, self.partitions, self.callers)
         self.machines.append(found)
         return found
 
     def end(self) -> None:
         for machine in self.machines:
             machine.kill()
+
+    def start_all(self) -> None:
+        """Starts the nodes that don't run."""
+        for machine in self.machines:
+            if machine.process is None or machine.process.poll() is not None:
+                machine.start()
 
     def is_served(self, number: int) -> bool:
         return any(machine.state(number) == "serving" for machine in self.machines)
@@ -246,6 +258,12 @@ class Room:
         machine.write({**told, "partitions": [one for one in told["partitions"] if one["number"] == number]})
         machine.start()
         return machine.ends(30)
+
+    def restart_with(self, machine: Machine, **more: object) -> None:
+        """Starts a machine's node again with other members of NODE.json."""
+        machine.kill()
+        machine.write({**machine.told(), **more})
+        machine.start()
 
     # The broker
 

@@ -199,7 +199,9 @@ class PartitionNode:
             self.figures.losses.inc()
             self.stream.lost()
             self.bridge.disconnected()
-        self.tell_state(why)
+        # (what this partition closed the connection for was told)
+        if not self.told or self.told[:REASON] not in why:
+            self.tell_state(why)
 
     # The stream
 
