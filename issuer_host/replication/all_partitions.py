@@ -1,4 +1,5 @@
 """All partitions of one machine, in one loop: the machine's node."""
+import resource
 import signal
 import time
 
@@ -15,6 +16,8 @@ from issuer_host.statuses import Status
 NAME = "node"
 LOOK_SECONDS = 0.5
 STOP_SECONDS = 2.0
+# Descriptors of the journals, their seals and pipes: some 4 a shard.
+DESCRIPTORS = 65_536
 # In these states a partition does its part.
 READY = (State.WAITING.value, State.BEGINNING.value, State.SERVING.value, STOPPED)
 
@@ -35,6 +38,7 @@ class AllPartitions:
         self.is_stopping = False
 
     def run(self) -> int:
+        raise_limit()
         for number in (signal.SIGTERM, signal.SIGINT):
             signal.signal(number, lambda *_: self.loop.add_callback_threadsafe(self.stop))
         for partition in self.partitions:
@@ -65,3 +69,11 @@ class AllPartitions:
         for partition in self.partitions:
             partition.stop("the node ends")
         self.loop.call_later(STOP_SECONDS, self.loop.stop)
+
+
+def raise_limit() -> None:
+    """Lets this process open as many files as all partitions may need."""
+    soft, hard = resource.getrlimit(resource.RLIMIT_NOFILE)
+    wanted = DESCRIPTORS if hard == resource.RLIM_INFINITY else min(hard, DESCRIPTORS)
+    if soft != resource.RLIM_INFINITY and soft < wanted:
+        resource.setrlimit(resource.RLIMIT_NOFILE, (wanted, hard))

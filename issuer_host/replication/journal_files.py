@@ -122,9 +122,11 @@ class JournalFiles:
     def locked_mark(self) -> RunMark:
         """Locks the mark of the journals, which says that no run has them open."""
         mark = lock_mark(self.journal)
-        if mark is None or any(is_locked(shard.path) for shard in self.shards):
-            raise Passing(f"another program has the journals {self.journal} open")
-        return mark
+        if mark is not None and not any(is_locked(shard.path) for shard in self.shards):
+            return mark
+        if mark is not None:
+            mark.close()
+        raise Passing(f"another program has the journals {self.journal} open")
 
     def read_all(self) -> None:
         """Reads all journals to their ends, while no line is put to a host."""

@@ -51,7 +51,7 @@ HEARTBEAT = 4
 ROOM_SECONDS = 0.02
 # A partition that something failed in begins again after so long, twice as long each time up to a limit; as at first
 # when nothing failed for a while.
-FIRST_DELAY, LAST_DELAY, STEADY_SECONDS = 0.5, 16.0, 60.0
+FIRST_DELAY, LAST_DELAY, STEADY_SECONDS = 0.5, 4.0, 60.0
 # Bytes of a reason that the broker is told.
 REASON = 200
 STOPPED = "stopped"
@@ -107,6 +107,9 @@ class PartitionNode:
         self.heard = 0.0
         self.rewritten = 0
         self.looks = 0
+        # How many records counted at the last look, and when one counted last, or none waited to.
+        self.counted = 0
+        self.moved = time.monotonic()
         # The host's answers of this turn of the loop.
         self.answers: "list[tuple[str, Action]]" = []
         # The position that is written next, whether one is being written, and the last one that was.
@@ -217,7 +220,8 @@ class PartitionNode:
             if self.journals is None or self.stream is None:
                 return
             if not self.journals.has_room():
-                self.loop.call_later(ROOM_SECONDS, self.call)
+                self.is_called = True
+                self.loop.call_later(ROOM_SECONDS, lambda: self.guarded(self.read_on))
                 break
             body = self.stream.next()
             if body is None:
@@ -300,7 +304,9 @@ class PartitionNode:
         self.guarded(lambda: self.delivered(entry))
 
     def delivered(self, entry: Entry) -> None:
-        assert self.bridge is not None
+        if self.bridge is None:
+            # (the connection is being closed)
+            return
         if entry.line == WAKE and not entry.reply_to:
             self.replying.settle(entry, True)
         elif self.serving.is_served:
@@ -438,8 +444,13 @@ class PartitionNode:
         self.figures.oldest.set(self.replying.flight.age(now))
         self.figures.read.set(self.stream.place.offset)
         self.figures.needed.set(self.kept.offset if self.kept is not None else positions.BEFORE)
-        self.figures.uncounted.set(self.journals.uncounted())
-        self.figures.serving.set(self.bridge.state is State.SERVING)
+        is_serving = self.bridge.state is State.SERVING
+        total = sum(self.bridge.count.records)
+        if not is_serving or not self.journals.uncounted() or total != self.counted:
+            self.moved = now
+        self.counted = total
+        self.figures.uncounted.set(now - self.moved)
+        self.figures.serving.set(is_serving)
 
     def is_owed(self) -> bool:
         """Whether something was written that didn't come back."""
