@@ -12,7 +12,7 @@ FOLDER = "/usr/lib/rabbitmq/bin"
 COMMAND = f"{FOLDER}/rabbitmq-server"
 CONTROL = f"{FOLDER}/rabbitmqctl"
 # (on a busy machine with the lowest share it takes more than a minute)
-START_SECONDS = 240
+START_SECONDS = 900
 LOOK_SECONDS = 0.1
 
 
