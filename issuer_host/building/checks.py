@@ -7,6 +7,7 @@ WITHOUT_PROGRAM = (
     "tests/names",
     "tests/card",
     "tests/replication --short",
+    "tests/availability",
     "tests/definitions --check",
     "tests/crates",
     "tests/sinks",
