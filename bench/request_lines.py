@@ -17,6 +17,7 @@ except ImportError:
     from cryptography.hazmat.primitives.ciphers.algorithms import TripleDES
 
 MASTER = bytes(range(16))
+AMOUNT = 12_345
 
 
 class Cards(Protocol):
@@ -91,13 +92,13 @@ def odd(key: bytes) -> bytes:
     return bytes((byte & 0xFE) | (bin(byte >> 1).count("1") & 1 ^ 1) for byte in key)
 
 
-def line(suite: Cards, pan: str, key: bytes, counter: int) -> str:
+def line(suite: Cards, pan: str, key: bytes, counter: int, amount: int = AMOUNT) -> str:
     data = f"0F{suite.identifier}01A00000000000000000000000000F000000000000000000000000000000"
-    text = f"000000012345000000000000027600000080000978260115001A2B3C4D3900{counter:04X}{data}"
+    text = f"{amount:012d}000000000000027600000080000978260115001A2B3C4D3900{counter:04X}{data}"
     cryptogram = suite.mac(suite.session_key(key, counter), bytes.fromhex(text)).hex().upper()
     return (
         f"A 5A08{pan}9F2608{cryptogram}9F2701809F1020{data}9F37041A2B3C4D9F3602{counter:04X}950500000080009A03260115"
-        "9C01009F02060000000123455F2A020978820239009F1A0202769F3303E0F8C89F34031E03009F3501229F1E0831323334353637"
+        f"9C01009F0206{amount:012d}5F2A020978820239009F1A0202769F3303E0F8C89F34031E03009F3501229F1E0831323334353637"
         "388407A00000000410109F090200029F41040000012300\n"
     )
 

@@ -6,9 +6,12 @@ from collections.abc import Mapping, Sequence
 from typing import Any
 
 from issuer_host.paths import HOME
+from issuer_host.request_lines import pan_of_line
 
 # The status that declines for an account, and the response code of its row.
 ACCOUNT, ACCOUNT_CODE = 1, "3531"
+# The tag and length of the ATC in a line of the trials.
+ATC = "9F3602"
 
 
 def whole_configuration(cards: int, shards: int) -> dict[str, Any]:
@@ -27,6 +30,15 @@ def distinct_lines(cards: int, count: int) -> list[str]:
     """Returns so many different request lines with right cryptograms."""
     each = -(-count // cards)
     return [line.rstrip("\n") for line in request_lines().distinct_lines(cards, each)[:count]]
+
+
+def changed_line(line: str) -> str:
+    """Returns a line of `distinct_lines` with another amount, and with the right cryptogram for it."""
+    found = request_lines()
+    pan = pan_of_line(line)
+    counter = int(line.partition(ATC)[2][:4], 16)
+    changed: str = found.line(found.TRIPLE_DES, pan, found.TRIPLE_DES.card_key(pan), counter, found.AMOUNT + 1)
+    return changed.rstrip("\n")
 
 
 def request_lines() -> Any:

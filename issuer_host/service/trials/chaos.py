@@ -1,6 +1,7 @@
 """Kills bridges, hosts and the broker while requests are answered, and holds answers and journals against each other.
 
 usage: deploy/chaos [--short] [--requests N] [--seed S] [--program PATH] [--keep FOLDER] [--loud]
+       deploy/chaos --machines ..     (the chaos of three machines; it has its own --help)
 
 It starts a private broker on the loopback, four partitions and two bridges for each, and asks N requests (20,000; in
 the short form 2,000), about a tenth of them again. About a tenth are declined by their accounts, and orders are given
@@ -62,6 +63,7 @@ SHORT_EVENTS = (
     *("bridge", "host", "hostile", "both", "broker", "stop", "disk", "deaf", "term"),
     *("standby", "host", "queue", "bridge", "upgrade", "both", "hang", "bridge"),
 )
+MACHINES = "--machines"
 PACKAGES = {"pika": "python3-pika", "cryptography": "python3-cryptography"}
 
 
@@ -239,6 +241,10 @@ def clear(options: Options, room: str, farm: Optional[Farm], disk: Optional[str]
 
 
 def main(words: Sequence[str]) -> int:
+    if MACHINES in words:
+        from issuer_host.replication.trials.chaos import main as main_of_machines
+
+        return main_of_machines([word for word in words if word != MACHINES])
     options = options_of(words)
     signal.signal(signal.SIGTERM, lambda *_: sys.exit(1))
     tally = Tally()

@@ -8,11 +8,10 @@ from issuer_host.journals import Decided, journal_path, record_of, records_of
 from issuer_host.partitions import partition_configuration, partition_of
 from issuer_host.request_lines import pan_of_line
 from issuer_host.service import offline
-from issuer_host.service.trials.farm import PARTITIONS, SHARDS, Farm
+from issuer_host.service.trials.cards import ATC
+from issuer_host.service.trials.farm import SHARDS
 from issuer_host.service.trials.tally import Tally
-
-# The tag and length of the ATC in a line of the trials.
-ATC = "9F3602"
+from issuer_host.service.trials.tried import Tried
 
 
 class Outcome(NamedTuple):
@@ -40,20 +39,20 @@ def outcome_of_record(line: str) -> Optional[Outcome]:
     return Outcome(record.request.pan, record.request.atc, record.code, record.approves, record.data)
 
 
-def records_of_farm(farm: Farm) -> Records:
+def records_of_farm(farm: Tried) -> Records:
     """Returns the records of each journal, by partition and shard; none has a torn line once it was shown."""
     return {
         (partition, shard): [
             outcome_of_record(line) for line in records_of(journal_path(farm.journal(partition), shard))
         ]
-        for partition in range(PARTITIONS)
+        for partition in range(farm.partitions)
         for shard in range(SHARDS)
     }
 
 
-def check_loads(tally: Tally, farm: Farm) -> None:
+def check_loads(tally: Tally, farm: Tried) -> None:
     """Each partition's journals load."""
-    for partition in range(PARTITIONS):
+    for partition in range(farm.partitions):
         config = partition_configuration(farm.configurations, partition)
         try:
             offline.show(config, farm.journal(partition), farm.program)
@@ -62,7 +61,7 @@ def check_loads(tally: Tally, farm: Farm) -> None:
             tally.check(False, f"partition {partition} doesn't load: {fault}")
 
 
-def check_all(tally: Tally, farm: Farm, lines: Sequence[str], answers: Mapping[str, Sequence[str]]) -> None:
+def check_all(tally: Tally, farm: Tried, lines: Sequence[str], answers: Mapping[str, Sequence[str]]) -> None:
     """Each request has equal replies and one record, at the place that its answers name, and no other record is."""
     check_loads(tally, farm)
     records = records_of_farm(farm)
@@ -76,16 +75,18 @@ def check_all(tally: Tally, farm: Farm, lines: Sequence[str], answers: Mapping[s
         reply = replies.pop() if len(replies) == 1 else None
         tally.check(reply is not None, f"{who}: the answers are {answers[line]}")
         tally.check(count[pan, counter] == 1, f"{who} has {count[pan, counter]} records")
-        tally.check(is_recorded(reply or "", pan, counter, records), f"{who}: another record is at {reply!r}")
+        tally.check(
+            is_recorded(reply or "", pan, counter, records, farm.partitions), f"{who}: another record is at {reply!r}"
+        )
     tally.check(len(every) == len(lines), f"{len(every)} records for {len(lines)} requests")
 
 
-def is_recorded(reply: str, pan: str, counter: int, records: Records) -> bool:
+def is_recorded(reply: str, pan: str, counter: int, records: Records, partitions: int) -> bool:
     """Whether the record that a reply names is that of the request, with the reply's words."""
     words = reply.split(" ")
     if len(words) != 5:
         return False
     shard, index, approves, code, data = words
-    journal = records[partition_of(pan, PARTITIONS), int(shard)]
+    journal = records[partition_of(pan, partitions), int(shard)]
     expected = Outcome(pan, counter, code, approves == "yes", data)
     return int(index) < len(journal) and journal[int(index)] == expected

@@ -42,6 +42,7 @@ class Farm:
     def __init__(self, room: str, program: Optional[str], disk: Optional[str], is_loud: bool = False) -> None:
         self.room = room
         self.program = program
+        self.partitions = PARTITIONS
         self.disk = disk
         self.is_loud = is_loud
         self.lock = threading.Lock()
@@ -147,7 +148,7 @@ def fill(path: str, piece: bytes) -> None:
         pass
 
 
-def make_configurations(room: str, program: Optional[str]) -> None:
+def make_configurations(room: str, program: Optional[str], partitions: int = PARTITIONS) -> None:
     """Cuts the cards by deploy/partition, as an operator does."""
     template = whole_configuration(CARDS, SHARDS)
     template["table"] = with_account_row(template["table"])
@@ -157,6 +158,6 @@ def make_configurations(room: str, program: Optional[str]) -> None:
     rows = "".join(f"{card['pan']},{card['psn']},{card['method']}\n" for card in cards)
     with open(os.path.join(room, "cards"), "w", encoding="utf-8") as text:
         text.write("pan,psn,method\n" + rows)
-    words = ["--of", str(PARTITIONS), "--cards", f"{room}/cards", "--template", f"{room}/template"]
+    words = ["--of", str(partitions), "--cards", f"{room}/cards", "--template", f"{room}/template"]
     words += ["--to", os.path.join(room, "configurations"), *words_of_program(program)]
     subprocess.run([command_of("partition"), *words], stdout=subprocess.DEVNULL, check=True)

@@ -14,8 +14,9 @@ from issuer_host.service.declines import body_of
 from issuer_host.service.order_text import BEFORE, DONE
 from issuer_host.service.refusal import Refusal
 from issuer_host.service.trials.cards import ACCOUNT, ACCOUNT_CODE
-from issuer_host.service.trials.farm import PARTITIONS, SHARDS, Farm
+from issuer_host.service.trials.farm import SHARDS
 from issuer_host.service.trials.tally import Tally
+from issuer_host.service.trials.tried import Tried
 
 DECLINED = 0.1
 # A status that no row of the table names.
@@ -52,9 +53,10 @@ class Ordered(NamedTuple):
 class Orders:
     """Orders that are given one after another while a trial goes on, each again until it is done."""
 
-    def __init__(self, farm: Farm, pans: Sequence[str], seed: int) -> None:
+    def __init__(self, farm: Tried, pans: Sequence[str], seed: int, seconds: float = ORDER_SECONDS) -> None:
         self.farm = farm
         self.pans = pans
+        self.seconds = seconds
         self.dice = random.Random(seed)
         self.is_over = threading.Event()
         self.done: list[Ordered] = []
@@ -76,16 +78,19 @@ class Orders:
             if self.dice.random() < 0.5 and queued[pan] < COMMANDS:
                 queued[pan] += 1
                 line = f"{QUEUE} {pan} 00 04da{len(self.done):04x}"
-            answer = self.answer_of(partition_of(pan, PARTITIONS), line)
+            answer = self.answer_of(self.partition(pan), line)
             if answer is None:
                 self.undone.append(line)
                 return
-            self.done.append(Ordered(partition_of(pan, PARTITIONS), line, answer))
+            self.done.append(Ordered(self.partition(pan), line, answer))
+
+    def partition(self, pan: str) -> int:
+        return partition_of(pan, self.farm.partitions)
 
     def answer_of(self, partition: int, line: str) -> Optional[str]:
         """Gives an order until it is done."""
         number = f"{os.urandom(8).hex()}/1"
-        end = time.monotonic() + ORDER_SECONDS
+        end = time.monotonic() + self.seconds
         while time.monotonic() < end:
             try:
                 reply = ordering.reply_of(ordering.bridges_of(self.farm.sockets(partition)), number, line)
@@ -98,17 +103,17 @@ class Orders:
         return None
 
 
-def check_work(tally: Tally, farm: Farm, messages: Sequence[str], orders: Orders) -> None:
+def check_work(tally: Tally, farm: Tried, messages: Sequence[str], orders: Orders) -> None:
     """Each order has one record, which its answer names; each decline is its card's neighbours; statuses come back."""
     tally.check(not orders.undone, f"orders that weren't done: {orders.undone}")
     declined = {request_of(message) for message in messages if "\n" in message}
     pans = [pan_of_line(line) for line in declined]
-    for partition in range(PARTITIONS):
+    for partition in range(farm.partitions):
         records = {shard: read(farm.journal(partition), shard) for shard in range(SHARDS)}
         done = [order for order in orders.done if order.partition == partition]
         check_orders(tally, records, done)
         found = check_declines(tally, [record for shard in records.values() for record in shard])
-        expected = sum(partition_of(pan, PARTITIONS) == partition for pan in pans)
+        expected = sum(partition_of(pan, farm.partitions) == partition for pan in pans)
         tally.check(found == expected, f"partition {partition} has {found} declined records for {expected} declines")
         check_statuses(tally, [record for shard in records.values() for record in shard], done)
 

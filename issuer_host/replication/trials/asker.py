@@ -1,0 +1,53 @@
+"""A publisher before a cluster: it asks on at another node where its own is gone."""
+import itertools
+import uuid
+from collections.abc import Iterator, Sequence
+from typing import Any, Optional
+
+from issuer_host.replication.trials.brokers import HEARTBEAT_SECONDS
+from issuer_host.service import broker
+from issuer_host.service.asking import OnAnswer
+from issuer_host.service.link import Link
+from issuer_host.service.loops import Channel, Step
+from issuer_host.service.trials.patient import PatientAsker
+
+
+class ClusterLink(Link):
+    """A connection to one node after another."""
+
+    nodes: "Iterator[Any]"
+
+    def open(self) -> None:
+        self.parameters = next(self.nodes)
+        super().open()
+
+
+class ClusterAsker(PatientAsker):
+    """A PatientAsker that goes from one node of the cluster to the next, with a reply queue for each connection.
+
+    A reply queue is on one node. While that one is gone, nobody can declare it again.
+    """
+
+    def __init__(
+        self,
+        partitions: int,
+        files: Sequence[str],
+        window: int = 64,
+        seconds: float = 60.0,
+        on_answer: Optional[OnAnswer] = None,
+    ) -> None:
+        super().__init__(partitions, files[0], window, seconds, on_answer)
+        link = ClusterLink(self.loop, None, self.steps_of, self.ready, lambda reason: None)
+        link.nodes = itertools.cycle(list(map(parameters_of, files)))
+        self.link = link
+
+    def steps_of(self, channel: Channel) -> list[Step]:
+        self.queue = f"{broker.REPLY_PREFIX}{uuid.uuid4().hex}"
+        return super().steps_of(channel)
+
+
+def parameters_of(file: str) -> Any:
+    found = broker.parameters_of(file)
+    found.heartbeat = HEARTBEAT_SECONDS
+    found.blocked_connection_timeout = 2 * HEARTBEAT_SECONDS
+    return found
