@@ -207,6 +207,15 @@ def wait_for(holds: Callable[[], bool], seconds: float, what: str) -> None:
         time.sleep(LOOK_SECONDS)
 
 
+def comes(holds: Callable[[], bool], seconds: float) -> bool:
+    """Whether something holds in so many seconds."""
+    try:
+        wait_for(holds, seconds, "")
+    except RuntimeError:
+        return False
+    return True
+
+
 def write(path: str, text: str, mode: int = 0o600) -> None:
     with open(os.open(path, os.O_WRONLY | os.O_CREAT | os.O_TRUNC, mode), "w", encoding="utf-8") as to:
         to.write(text)

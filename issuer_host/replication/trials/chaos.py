@@ -8,7 +8,7 @@ on each, and asks N requests (20,000; in the short form 1,000). About a tenth ar
 another amount, and a tenth are declined by their accounts; orders are given meanwhile. In each round something happens
 to a machine that serves a partition:
 
-- it loses its power without a word, or is killed with all its connections; so do two, one after another
+- it loses its power without a word, or is killed with all its connections; so do two, one after another, and all three
 - its disk is lost, and it begins from copies of another's journals
 - it is cut off: its packets are lost, its interface is down, it hears one of the two others, its link blinks
 - all that runs on it stands still for 30 s, or its node alone

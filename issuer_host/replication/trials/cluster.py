@@ -59,10 +59,15 @@ class Cluster:
                 f"{self.folder} isn't empty: a cluster is made in an empty folder, or in one that isn't there"
             )
         write(os.path.join(self.folder, MARK), f"{partitions}\n")
-        self.network.up()
-        self.brokers.write_files()
-        self.brokers.start()
-        self.declare(partitions)
+        try:
+            self.network.up()
+            self.brokers.write_files()
+            self.brokers.start()
+            self.declare(partitions)
+        except BaseException:
+            # (also if it is interrupted: nothing runs on)
+            self.down()
+            raise
 
     def declare(self, partitions: int) -> None:
         """Declares the queues and the streams, as the operator does."""

@@ -72,6 +72,15 @@ def kill_two(machines: Machines, dice: random.Random) -> None:
     machines.switch_on(second)
 
 
+def kill_all(machines: Machines, dice: random.Random) -> None:
+    """All machines go at once, and come back. (What was written stays: their memory isn't lost.)"""
+    for machine in machines.network.machines:
+        machines.switch_off(machine)
+    away(dice)
+    for machine in machines.network.machines:
+        machines.switch_on(machine)
+
+
 def cut_machine(machines: Machines, dice: random.Random) -> None:
     """All packets of a machine are lost, for a while."""
     machine = machines.pick_serving(dice)
@@ -208,6 +217,7 @@ EVENTS: Mapping[str, Event] = {
     "power": Event(4, lose_power),
     "machine": Event(3, kill_machine),
     "two": Event(2, kill_two),
+    "all": Event(1, kill_all),
     "replaced": Event(2, replace_machine),
     "cut": Event(4, cut_machine),
     "unplugged": Event(2, unplug_machine),

@@ -2,7 +2,7 @@
 import os
 import time
 import uuid
-from collections.abc import Callable, Sequence
+from collections.abc import Sequence
 from typing import Any
 
 import pika
@@ -11,7 +11,7 @@ from issuer_host.journals import journal_path, records_of
 from issuer_host.replication.messages import NOTES, Barrier, Mark, Message, Record, parse, text_of
 from issuer_host.replication.notes import read_notes
 from issuer_host.replication.rule import Count
-from issuer_host.replication.trials.brokers import NODE, wait_for
+from issuer_host.replication.trials.brokers import NODE, comes
 from issuer_host.replication.trials.machines import Machines
 from issuer_host.service import broker
 from issuer_host.service.trials.farm import SHARDS
@@ -150,16 +150,8 @@ def check_equal(tally: Tally, machines: Machines, seconds: float = SETTLE_SECOND
     for partition in range(machines.partitions):
         history = history_of(messages_of(machines, partition))
         for number, machine in enumerate(machines.network.machines):
-            is_equal = comes_to(lambda: journals_of(machines, number, partition, history) == history, seconds)
+            is_equal = comes(lambda: journals_of(machines, number, partition, history) == history, seconds)
             tally.check(is_equal, f"the journals of {machine.name}, partition {partition}, aren't what counts")
-
-
-def comes_to(holds: Callable[[], bool], seconds: float) -> bool:
-    try:
-        wait_for(holds, seconds, "")
-    except RuntimeError:
-        return False
-    return True
 
 
 def next_record(messages: Sequence[Message], text: str) -> Record:

@@ -86,6 +86,10 @@ class Machines:
     def broker_of(self, machine: Machine) -> BrokerNode:
         return self.brokers.of(machine)
 
+    def file_of(self, user: str) -> str:
+        """Returns a user's broker file for the first machine's broker."""
+        return self.brokers.url_file(user, self.network.machines[0])
+
     def publisher_files(self) -> list[str]:
         return [self.brokers.url_file(PUBLISHER, machine) for machine in self.network.machines]
 
@@ -142,8 +146,7 @@ class Machines:
 
     def delete_queues(self) -> None:
         """Deletes the queues and the streams of another trial."""
-        file = self.brokers.url_file(OPERATOR, self.network.machines[0])
-        connection = pika.BlockingConnection(broker.parameters_of(file))
+        connection = pika.BlockingConnection(broker.parameters_of(self.file_of(OPERATOR)))
         channel = connection.channel()
         for partition in range(self.partitions):
             channel.queue_delete(broker.queue_of(partition))

@@ -44,6 +44,7 @@ class ManagedNode:
 
     def start(self) -> None:
         self.is_on = True
+        self.is_down = False
         with open(self.log, "ab") as log:
             self.process = subprocess.Popen(
                 self.network.command(self.machine, self.command),
