@@ -68,13 +68,18 @@ class Machine:
 
     def partition(self, number: int) -> dict[str, Any]:
         """Returns what NODE.json says of a partition, and writes its configuration."""
-        config, journal = partition_configuration(self.room, number), self.journal(number)
+        journal = self.journal(number)
         os.makedirs(os.path.dirname(journal), exist_ok=True)
-        found = whole_configuration(CARDS, SHARDS)
-        with open(os.open(config, os.O_CREAT | os.O_WRONLY, 0o600), "w", encoding="utf-8") as text:
-            json.dump({**found, "table": with_account_row(found["table"])}, text)
-        files = {"configuration": config, "journal": journal, "orders": self.socket(number)}
+        files = {"configuration": self.configure(number), "journal": journal, "orders": self.socket(number)}
         return {"number": number, "callers": self.callers, **files}
+
+    def configure(self, number: int, cards: int = CARDS) -> str:
+        """Writes a partition's configuration, and returns its path."""
+        config = partition_configuration(self.room, number)
+        found = whole_configuration(cards, SHARDS)
+        with open(os.open(config, os.O_CREAT | os.O_TRUNC | os.O_WRONLY, 0o600), "w", encoding="utf-8") as text:
+            json.dump({**found, "table": with_account_row(found["table"])}, text)
+        return config
 
     def journal(self, number: int) -> str:
         return partition_journal(self.room, number)
@@ -259,6 +264,13 @@ class Room:
         machine.start()
         return machine.ends(30)
 
+    def give(self, machine: Machine, cards: int) -> None:
+        """Starts a machine's node again with a configuration of so many cards."""
+        machine.kill()
+        for number in self.partitions:
+            machine.configure(number, cards)
+        machine.start()
+
     def restart_with(self, machine: Machine, **more: object) -> None:
         """Starts a machine's node again with other members of NODE.json."""
         machine.kill()
@@ -417,8 +429,8 @@ def order(machine: Machine, number: int, name: str, line: str) -> str:
         time.sleep(LOOK_SECONDS)
 
 
-def lines_of(count: int) -> list[str]:
-    return distinct_lines(CARDS, count)
+def lines_of(count: int, cards: int = CARDS) -> list[str]:
+    return distinct_lines(cards, count)
 
 
 def wait_until(holds: Callable[[], object], seconds: float = SECONDS) -> bool:

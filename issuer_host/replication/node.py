@@ -41,7 +41,8 @@ NAME = "node"
 def begin(path: str) -> None:
     """Creates the positions of all partitions that have none, and the journals of those that have none."""
     for one in node_file.read(path).partitions:
-        if not shards_of_files(one.journal).journals:
+        found_here = shards_of_files(one.journal)
+        if not found_here.journals and not found_here.olds:
             create_journals(one.journal, shards_of(one.configuration))
         found = positions.begin(one.journal)
         print(f"partition {one.number} begins with {sum(found.counts)} records, {found.digest}")

@@ -14,7 +14,7 @@ import threading
 from collections.abc import Callable, Iterable
 from typing import Any, NamedTuple, Optional
 
-from issuer_host.journals import POSITION, VERSION_LINE, journal_path, shards_of_files
+from issuer_host.journals import POSITION, VERSION_LINE, journal_path, old_journal_path, shards_of_files
 from issuer_host.replication.messages import LOGS, NAME, NOTES, Barrier, Mark, text_of
 from issuer_host.replication.notes import read_notes, write_notes
 from issuer_host.replication.rule import NO_BARRIER
@@ -150,6 +150,7 @@ def begin(journal: str) -> Position:
     """Creates the position before a stream's first message, of journals that no host writes."""
     if os.path.exists(position_path(journal)):
         raise Refusal(f"{position_path(journal)} exists: the partition has begun here")
+    refuse_uncopied(journal)
     counts, sizes = [0] * LOGS, [len(VERSION_LINE)] * NOTES + [0]
     total = hashlib.sha256()
     for shard in shards_of_files(journal).journals:
@@ -161,6 +162,19 @@ def begin(journal: str) -> Position:
     found = Position(BEFORE, total.hexdigest()[:DIGITS], NO_BARRIER, tuple(counts), tuple(sizes))
     write(journal, found)
     return found
+
+
+def refuse_uncopied(journal: str) -> None:
+    """Refuses old journals, of version 1, whose records aren't copied: a start would append them later."""
+    for shard in shards_of_files(journal).olds:
+        with open(old_journal_path(journal, shard), "rb") as opened:
+            old = opened.read()
+        path = journal_path(journal, shard)
+        size = os.path.getsize(path) if os.path.exists(path) else 0
+        if old and size < len(VERSION_LINE) + old.rfind(b"\n") + 1:
+            raise Refusal(
+                f"{path} hasn't the records of {old_journal_path(journal, shard)}: start its host once before"
+            )
 
 
 def measured(path: str) -> tuple[int, int, str]:

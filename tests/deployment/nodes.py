@@ -76,6 +76,22 @@ def begins_each_partition_once(tally: Tally) -> None:
         tally.holds(positions.begin(other.name).digest != empty.digest, "journals with records have another digest")
 
 
+def begins_with_no_old_journal_uncopied(tally: Tally) -> None:
+    """Old journals are copied before a partition begins: a start would append their records later."""
+    with new_host(tally) as host:
+        lines = records(host.begun(), 2)
+        for shard in range(SHARDS):
+            os.remove(host.journal(shard))
+            os.remove(f"{host.journal(shard)}.seals")
+            write_text(host.folder, host.old_journal(shard), "".join(f"{line}\n" for line in lines * (not shard)))
+        os.remove(f"{host.name}.run")
+        path = written(host, node_of(host))
+        is_refused(tally, run(tally, "node", "--begin", path), "a begin with old journals", "start its host once")
+        tally.expect(host.start("--begin").returncode, Status.OK, "the status of a start that copies them")
+        ran = run(tally, "node", "--begin", path)
+        tally.expect((ran.returncode, positions.read(host.name).counts[0]), (0, 2), f"a begin, with {ran.stderr!r}")
+
+
 def records(host: Host, count: int) -> "list[str]":
     """Has the program record so many statuses, and returns the lines of the first shard."""
     lines = "".join(f"S {PANS[0]} 00 {number % 10}\n" for number in range(count))
@@ -245,6 +261,7 @@ CHECKS = [
     for body in (
         refuses_a_wrong_node_file,
         begins_each_partition_once,
+        begins_with_no_old_journal_uncopied,
         refuses_a_wrong_position,
         copies_what_counts,
         only_a_node_appends_to_replicated_journals,
