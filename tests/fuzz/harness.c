@@ -2,24 +2,31 @@
 
    usage: harness TARGET FILE     (in the environment: FUZZ_CONFIG, FUZZ_ROOM, FUZZ_REQUESTS, FUZZ_HELD)
 
-   TARGET says what the input is: lines, configuration, journal, old_journal, feed, clearing or dol. Each run of the
-   program is a child of this process, which maps the fuzzer's counts too. FUZZ_ROOM is a folder in memory, and is
-   emptied before each input. FUZZ_REQUESTS is served by each valid configuration, and FUZZ_HELD is the journal that a
-   clearing file is held against. tests/fuzz/search builds this and starts it. */
+   TARGET says what the input is: lines, configuration, journal, old_journal, feed, clearing or dol. The runs of the
+   program are calls in this process, one input after another: a process for each run costs many times what the run does.
+   So what a run allocates and opens is given back here, and the end of its process is the end of the call. FUZZ_ROOM is
+   a folder in memory, and is emptied before each input. FUZZ_REQUESTS is served by each valid configuration, and
+   FUZZ_HELD is the journal that a clearing file is held against. tests/fuzz/search builds this and starts it. */
 #define _GNU_SOURCE
 #include <dirent.h>
 #include <fcntl.h>
+#include <setjmp.h>
 #include <signal.h>
+#include <stdint.h>
 #include <stdio.h>
 #include <stdlib.h>
 #include <string.h>
 #include <sys/mman.h>
-#include <sys/wait.h>
 #include <unistd.h>
 
 /* Of so many inputs one is tried further: what the program left loads, is exported and fed to a standby. With
    FUZZ_FURTHER in the environment each input is. */
 enum { FURTHER_OF = 8 };
+
+/* So many inputs go to one process. The fuzzer finds the text in the program, and then starts it by the call below. */
+enum { INPUTS = 1000 };
+const char *const how_it_is_fuzzed = "##SIG_AFL_PERSISTENT##";
+extern int __afl_persistent_loop(unsigned most);
 
 /* The program's own start, renamed. It asks for its words by the two calls below, which stand for the toolchain's. */
 extern int issuer_main(int count, char **words);
@@ -38,6 +45,72 @@ static char journal[PATH], shard[PATH], old_shard[PATH];
 
 static const char **words_of_run;
 static int count_of_run;
+
+/* Whether the program runs, where its end goes to, and its status. */
+static int is_running, status_of_run;
+static jmp_buf end_of_run;
+
+/* Memory of an input, which the next one uses again: a block is its length, and its bytes. */
+enum { ALIGNED = 16, MOST_MEMORY = 1 << 28 };
+static char *memory, *free_at;
+
+/* Where messages go: the error output of the program leads nowhere. */
+static int messages = 2;
+
+static void *allocate(size_t length)
+{
+    size_t room = (length + ALIGNED - 1) / ALIGNED * ALIGNED + ALIGNED;
+    char *block = free_at;
+    if (length > MOST_MEMORY || room > (size_t)(memory + MOST_MEMORY - block))
+        return NULL;
+    free_at = block + room;
+    memcpy(block, &length, sizeof length);
+    return block + ALIGNED;
+}
+
+static int is_of_input(const void *block)
+{
+    return (const char *)block >= memory && (const char *)block < memory + MOST_MEMORY;
+}
+
+/* What the program calls in place of the C library's. */
+extern void *__real_malloc(size_t length);
+extern void *__real_realloc(void *block, size_t length);
+extern void __real_free(void *block);
+extern void __real__exit(int status) __attribute__((noreturn));
+
+void *__wrap_malloc(size_t length)
+{
+    return is_running ? allocate(length) : __real_malloc(length);
+}
+
+void __wrap_free(void *block)
+{
+    if (!is_of_input(block))
+        __real_free(block);
+}
+
+void *__wrap_realloc(void *block, size_t length)
+{
+    size_t before;
+    void *found;
+    if (!is_running)
+        return __real_realloc(block, length);
+    found = allocate(length);
+    if (block && found) {
+        memcpy(&before, (char *)block - ALIGNED, sizeof before);
+        memcpy(found, block, before < length ? before : length);
+    }
+    return found;
+}
+
+void __wrap__exit(int status)
+{
+    if (!is_running)
+        __real__exit(status);
+    status_of_run = status;
+    longjmp(end_of_run, 1);
+}
 
 long rattle_arg_count(void)
 {
@@ -59,7 +132,7 @@ long rattle_arg(size_t index, char *to, size_t most)
 
 static void fail(const char *what)
 {
-    fprintf(stderr, "harness: %s\n", what);
+    dprintf(messages, "harness: %s\n", what);
     abort();
 }
 
@@ -71,12 +144,13 @@ static void hold(int fact, const char *what)
 
 static struct text read_all(int from)
 {
-    struct text found = {malloc(MOST_BYTES), 0};
+    struct text found = {allocate(MOST_BYTES), 0};
     ssize_t got;
     hold(found.bytes != NULL, "there is no memory");
     while ((got = pread(from, found.bytes + found.length, MOST_BYTES - found.length, found.length)) > 0)
         found.length += got;
     close(from);
+    free_at = found.bytes + (found.length + 1 + ALIGNED - 1) / ALIGNED * ALIGNED;
     return found;
 }
 
@@ -114,35 +188,26 @@ static void begin_anew(void)
 static int run(struct text *output, const char *first, ...)
 {
     const char *words[MOST_WORDS] = {"issuer", first};
-    int count = 2, status, to = memfd_create("output", MFD_CLOEXEC), none = open("/dev/null", O_RDWR);
+    char *begin = free_at;
+    int count = 2;
     __builtin_va_list more;
-    pid_t child;
     __builtin_va_start(more, first);
     while ((words[count] = __builtin_va_arg(more, const char *)) != NULL)
         count++;
     __builtin_va_end(more);
-    hold(to >= 0 && none >= 0, "there is no descriptor");
-    child = fork();
-    if (child == 0) {
-        dup2(none, 0);
-        dup2(to, 1);
-        dup2(none, 2);
-        close(none);
-        close(to);
-        words_of_run = words;
-        count_of_run = count;
-        exit(issuer_main(count, (char **)words));
-    }
-    hold(child > 0 && waitpid(child, &status, 0) == child, "no run can be made");
-    close(none);
+    hold(ftruncate(1, 0) == 0 && lseek(1, 0, SEEK_SET) == 0, "the output can't be emptied");
+    words_of_run = words;
+    count_of_run = count;
+    is_running = 1;
+    if (setjmp(end_of_run) == 0)
+        status_of_run = issuer_main(count, (char **)words);
+    is_running = 0;
+    free_at = begin;
+    /* (what it left open, with its locks; the fuzzer's own descriptors are higher) */
+    close_range(3, 190, 0);
     if (output)
-        *output = read_all(to);
-    else
-        close(to);
-    if (WIFSIGNALED(status))
-        kill(getpid(), WTERMSIG(status));
-    hold(WIFEXITED(status), "the run didn't end");
-    return WEXITSTATUS(status);
+        *output = read_all(dup(1));
+    return status_of_run;
 }
 
 static int serve(struct text *output, const char *requests)
@@ -298,7 +363,7 @@ static void try_dol(void)
     struct text words = bytes_of(input);
     char *newline;
     int status;
-    words.bytes = words.bytes ? words.bytes : calloc(1, 1);
+    words.bytes = words.bytes ? words.bytes : allocate(1);
     words.bytes[words.length < MOST_BYTES ? words.length : MOST_BYTES - 1] = 0;
     newline = strchr(words.bytes, '\n');
     if (newline)
@@ -307,31 +372,51 @@ static void try_dol(void)
     hold(status == OK || status == WORDS || status == BAD_DOL || status == BAD_DATA, "a list has another status");
 }
 
+static void try_input(const char *target)
+{
+    config = getenv("FUZZ_CONFIG");
+    free_at = memory;
+    begin_anew();
+    if (strcmp(target, "lines") == 0)
+        try_lines();
+    else if (strcmp(target, "configuration") == 0)
+        try_configuration();
+    else if (strcmp(target, "journal") == 0)
+        try_journal(shard);
+    else if (strcmp(target, "old_journal") == 0)
+        try_journal(old_shard);
+    else if (strcmp(target, "feed") == 0)
+        try_feed();
+    else if (strcmp(target, "clearing") == 0)
+        try_clearing();
+    else if (strcmp(target, "dol") == 0)
+        try_dol();
+    else
+        fail("no target has this name");
+}
+
+/* Gives the program its descriptors: an input and an error output that lead nowhere, and an output in memory. */
+static void open_descriptors(void)
+{
+    int none = open("/dev/null", O_RDWR), to = memfd_create("output", 0);
+    messages = fcntl(2, F_DUPFD_CLOEXEC, 200);
+    hold(messages >= 0 && none >= 0 && to >= 0, "there is no descriptor");
+    hold(dup2(none, 0) == 0 && dup2(to, 1) == 1 && dup2(none, 2) == 2, "a descriptor can't be copied");
+    close_range(3, 190, 0);
+}
+
 int main(int count, char **words)
 {
     hold(count == 3 && getenv("FUZZ_CONFIG") && getenv("FUZZ_ROOM"), "start it by tests/fuzz/search");
-    config = getenv("FUZZ_CONFIG");
     room = getenv("FUZZ_ROOM");
     input = words[2];
     snprintf(journal, PATH, "%s/journal", room);
     snprintf(shard, PATH, "%s/journal.00.v2", room);
     snprintf(old_shard, PATH, "%s/journal.00", room);
-    begin_anew();
-    if (strcmp(words[1], "lines") == 0)
-        try_lines();
-    else if (strcmp(words[1], "configuration") == 0)
-        try_configuration();
-    else if (strcmp(words[1], "journal") == 0)
-        try_journal(shard);
-    else if (strcmp(words[1], "old_journal") == 0)
-        try_journal(old_shard);
-    else if (strcmp(words[1], "feed") == 0)
-        try_feed();
-    else if (strcmp(words[1], "clearing") == 0)
-        try_clearing();
-    else if (strcmp(words[1], "dol") == 0)
-        try_dol();
-    else
-        fail("no target has this name");
+    memory = mmap(NULL, MOST_MEMORY, PROT_READ | PROT_WRITE, MAP_PRIVATE | MAP_ANONYMOUS | MAP_NORESERVE, -1, 0);
+    hold(memory != MAP_FAILED, "there is no memory");
+    open_descriptors();
+    while (__afl_persistent_loop(INPUTS))
+        try_input(words[1]);
     return 0;
 }
