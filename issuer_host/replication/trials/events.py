@@ -14,14 +14,13 @@ from issuer_host.replication.trials.history import Reader, last_barrier, next_re
 from issuer_host.replication.trials.machines import Machines
 from issuer_host.replication.trials.network import Machine
 from issuer_host.service import broker
-from issuer_host.service.trials.cards import request_lines
-from issuer_host.service.trials.farm import CARDS
 
 AWAY_SECONDS = (2.0, 8.0)
 STOPPED_SECONDS = 30.0
 BLINKS, BLINK_SECONDS = 4, (0.2, 1.5)
 CLOCKS = (-90_000, -3_600, 3_600, 90_000)
-GHOST_TRIES = 20
+# A status that a deposed bridge would record: no row of the table names it.
+GHOST_TRIES, STATUS = 20, 3
 
 
 class Event(NamedTuple):
@@ -182,25 +181,23 @@ def go_on_deposed(machines: Machines, dice: random.Random) -> None:
 
 def haunt(machines: Machines, partition: int) -> None:
     """Writes what a deposed bridge may write: a barrier without a greater number, and records that come too late."""
-    pan = request_lines().pan_of(CARDS - 1)
-    text = f"s {pan:f<20} 00 3"
     for attempt in range(GHOST_TRIES):
         file = machines.brokers.url_file(NODE, machines.network.machines[attempt % len(machines.network.machines)])
         try:
-            write_ghosts(file, partition, text)
+            write_ghosts(file, partition)
             return
         except (pika.exceptions.AMQPError, OSError, RuntimeError):
             time.sleep(1.0)
     raise RuntimeError("the stream can't be written")
 
 
-def write_ghosts(file: str, partition: int, text: str) -> None:
+def write_ghosts(file: str, partition: int) -> None:
     """Writes what counts nowhere, and reads that it is there."""
     reader = Reader(file, partition)
     messages = reader.read()
     reader.close()
     barrier = last_barrier(messages)
-    record = next_record(messages, text)
+    record = next_record(messages, STATUS)
     name = f"ghost.{uuid.uuid4().hex}"
     reader = Reader(file, partition)
     reader.write(Barrier(barrier.number, name, "m0"))

@@ -7,7 +7,7 @@ from typing import Any
 
 import pika
 
-from issuer_host.journals import journal_path, records_of
+from issuer_host.journals import PAN_DIGITS, card_of_record, journal_path, records_of
 from issuer_host.replication.messages import NOTES, Barrier, Mark, Message, Record, parse, text_of
 from issuer_host.replication.notes import read_notes
 from issuer_host.replication.rule import Count
@@ -119,7 +119,10 @@ def journals_of(machines: Machines, number: int, partition: int, history: Histor
 
 
 def whole_lines(path: str) -> list[str]:
-    found = list(records_of(path)) if os.path.exists(path) else []
+    """Returns a journal's records. One that nothing was written to is empty."""
+    if not os.path.getsize(path):
+        return []
+    found = list(records_of(path))
     with open(path, "rb") as data:
         is_torn = not data.read().endswith(b"\n")
     return found[:-1] if is_torn else found
@@ -154,6 +157,10 @@ def check_equal(tally: Tally, machines: Machines, seconds: float = SETTLE_SECOND
             tally.check(is_equal, f"the journals of {machine.name}, partition {partition}, aren't what counts")
 
 
-def next_record(messages: Sequence[Message], text: str) -> Record:
-    """Returns a record that would be the first shard's next one."""
-    return Record(0, len(history_of(messages)[0]), text)
+def next_record(messages: Sequence[Message], status: int) -> Record:
+    """Returns a record that may come next in the first shard: a card of it gets a status."""
+    found = history_of(messages)[0]
+    if not found:
+        raise RuntimeError("the first shard has no record yet")
+    pan, psn = card_of_record(found[-1])
+    return Record(0, len(found), f"s {pan.ljust(PAN_DIGITS, 'f')} {psn} {status}")
