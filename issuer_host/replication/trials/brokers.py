@@ -13,6 +13,7 @@ from collections.abc import Callable, Mapping
 from typing import Optional
 
 from issuer_host.replication.trials.network import Machine, Network
+from issuer_host.service.broker import MAX_MESSAGE
 from issuer_host.service.broker_facts import Permissions
 from issuer_host.service.broker_rules import NODE_MAY, OPERATOR_MAY, PUBLISHER_LIMITS, PUBLISHER_MAY
 from issuer_host.service.trials.private_broker import COMMAND, CONTROL, LOOK_SECONDS
@@ -26,6 +27,7 @@ TICK_SECONDS, SETUP_SECONDS, HEARTBEAT_SECONDS = 8, 2, 4
 START_SECONDS = 600
 SETTINGS = """\
 listeners.tcp.1 = {address}:{port}
+max_message_size = {message}
 heartbeat = {heartbeat}
 net_ticktime = {tick}
 cluster_partition_handling = pause_minority
@@ -107,6 +109,7 @@ class BrokerNode:
         settings = SETTINGS.format(
             address=self.machine.address,
             port=PORT,
+            message=MAX_MESSAGE,
             heartbeat=HEARTBEAT_SECONDS,
             tick=tick,
             peers=peers,

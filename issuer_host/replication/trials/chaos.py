@@ -59,8 +59,8 @@ REQUESTS, SHORT_REQUESTS = 20_000, 1_000
 REQUESTS_OF_ROUND = 1_000
 # How long a machine is believed in that no longer answers: more where processors are scarce.
 TICK_SECONDS = 8
-# Requests a second: a round lasts for as long as what happens in it.
-RATE = 60.0
+# Requests a second at most, and how long they are asked at least.
+RATE, ROUND_SECONDS = 60.0, 15.0
 CHANGED = 0.01
 ANSWER_SECONDS = 900.0
 SHORT_EVENTS = ("power", "deposed", "cut", "node stopped", "leader")
@@ -140,10 +140,11 @@ def rounds_of(messages: Sequence[str], events: Sequence[str], dice: random.Rando
 
 
 def paced(messages: Sequence[str]) -> Iterator[str]:
-    """The messages, at a rate."""
+    """The messages, at a rate by which they last for as long as what happens meanwhile."""
     began = time.monotonic()
+    rate = min(RATE, len(messages) / ROUND_SECONDS)
     for number, message in enumerate(messages):
-        time.sleep(max(0.0, began + number / RATE - time.monotonic()))
+        time.sleep(max(0.0, began + number / rate - time.monotonic()))
         yield message
 
 

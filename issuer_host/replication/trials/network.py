@@ -13,7 +13,7 @@ MACHINES = 3
 COMMANDS = {"ip": "iproute2", "bridge": "iproute2"}
 # States of a bridge's port: it drops all frames without a word, or forwards them.
 SILENT, FORWARDING = "0", "3"
-DOWN_SECONDS = 10.0
+DOWN_SECONDS = 60.0
 LOOK_SECONDS = 0.05
 INSIDE = "eth0"
 
