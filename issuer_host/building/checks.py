@@ -16,5 +16,6 @@ WITHOUT_PROGRAM = (
     "tests/kcv",
     "tests/edits/run --check",
     "tests/mutants/try_all --check",
+    "tests/reverted/try_each --check",
     "tools/box_circuits --check",
 )

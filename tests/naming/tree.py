@@ -12,7 +12,7 @@ PARTS = ("src", "specs", "proofs")
 SCRIPTS = (
     *("issuer", "issuer_host/**/*.py", ".ci/*", "tests/*", "tests/edits/run", "tests/mutants/try_all", "bench/*"),
     *("tools/*", "deploy/*", "deploy/units/*", "deploy/man/*", "tests/*/*.py", "crates.txt", "examples/*"),
-    *("crates/*/args", "crates/*/stdout"),
+    *("crates/*/args", "crates/*/stdout", "tests/reverted/*"),
 )
 # Programs whose first word is a command; their texts of usage have all of them.
 PROGRAMS = ("./issuer", "tools/card")
@@ -116,7 +116,8 @@ class Tree:
     def read_scripts(self) -> None:
         for path in (path for pattern in SCRIPTS for path in found(pattern)):
             if os.path.isfile(os.path.join(HOME, path)) and not path.endswith(".md"):
-                self.words |= words_in(text_of(path)) | {os.path.basename(path)}
+                name = os.path.basename(path)
+                self.words |= words_in(text_of(path)) | {name, name.removesuffix(".edit")}
                 self.options |= set(OPTION.findall(text_of(path)))
 
     def has_path(self, name: str, page: str, last: str = "") -> bool:
