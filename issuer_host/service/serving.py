@@ -13,7 +13,8 @@ from issuer_host.service.holding import Holding
 from issuer_host.service.hosting import Calls, Hosting
 from issuer_host.service.loops import Action, Loop
 from issuer_host.service.order_socket import OrderSocket
-from issuer_host.service.orders import NOT_DONE, Order, Ordered
+from issuer_host.service.order_text import NOT_DONE
+from issuer_host.service.orders import Order, Ordered
 from issuer_host.service.work_file import WorkFile
 from issuer_host.statuses import Status
 
