@@ -19,6 +19,8 @@ ENVIRONMENT = {
     "DEBEMAIL": "maintainer@example.org",
 }
 LICENCE = "/usr/share/common-licenses/Apache-2.0"
+# How a command begins that reads no module of a user's; the second without the packages of other makers, for speed.
+ISOLATED = ("#!/usr/bin/python3 -I", "#!/usr/bin/python3 -IS")
 
 
 class Package:
@@ -121,7 +123,8 @@ def needs_what_it_runs(tally: Tally) -> None:
     scripts = [one for one in commands if os.path.isfile(one)]
     tally.holds(scripts, "the package has no script")
     for one in scripts:
-        tally.expect(content_of(one).partition("\n")[0], "#!/usr/bin/python3 -I", f"the first line of {one}")
+        first = content_of(one).partition("\n")[0]
+        tally.holds(first in ISOLATED, f"the first line of {one} is {first}")
         run_tool(tally, one, "--help")
     compiled = [name for name, folders, _ in os.walk(package.root) if "__pycache__" in folders]
     tally.expect(compiled, [], "where its commands left compiled modules")
