@@ -54,17 +54,14 @@ issuer: unstripped-binary-or-object *
 issuer: non-standard-dir-perm 0700 != 0755 *etc/issuer/*
 """
 COPYRIGHT = """\
-Format: https://www.debian.org/doc/packaging-manuals/copyright-format/1.0/
-Upstream-Name: issuer
+issuer: the issuer's authorisation host for EMV chip cards
 
-Files: *
 Copyright: {year} the authors of issuer
 License: Apache-2.0
-Comment:
- The program also has code of the library of the toolchain that built it, and
- of crates that come with that toolchain, each with a licence of its own.
 
-License: Apache-2.0
- On Debian systems the text of the Apache License, version 2.0, is in
- /usr/share/common-licenses/Apache-2.0.
+The program also has code of the library of the toolchain that built it, and
+of crates that come with that toolchain, each with a licence of its own.
+
+On Debian systems the text of the Apache License, version 2.0, is in
+/usr/share/common-licenses/Apache-2.0.
 """
