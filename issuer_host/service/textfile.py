@@ -1,4 +1,5 @@
 """Figures in a file, for the text file collector of Prometheus' node exporter."""
+import contextlib
 import os
 import time
 from collections.abc import Mapping
@@ -18,10 +19,19 @@ def write(path: str, labels: Mapping[str, str], values: Mapping[str, float]) -> 
     text = ""
     for name, value in values.items():
         text += f"# HELP {name} {FIGURES[name]}\n# TYPE {name} gauge\n{name}{{{named}}} {value}\n"
-    with open(f"{path}.new", "w", encoding="ascii") as to:
+    put(path, text)
+
+
+def put(path: str, text: str) -> None:
+    """Puts a text in place of a file, which all may read. Others may have files and links in its folder."""
+    new = f"{path}.new"
+    with contextlib.suppress(FileNotFoundError):
+        os.remove(new)
+    file = os.open(new, os.O_WRONLY | os.O_CREAT | os.O_EXCL | os.O_CLOEXEC, 0o600)
+    with open(file, "w", encoding="ascii") as to:
         to.write(text)
-    os.chmod(f"{path}.new", 0o644)
-    os.replace(f"{path}.new", path)
+        os.fchmod(to.fileno(), 0o644)
+    os.replace(new, path)
 
 
 def now() -> float:

@@ -1,6 +1,7 @@
 """The refusals of deploy/issuer-run before the built program, and the starts that it lets pass; deploy/look."""
 import fcntl
 import os
+import stat
 import subprocess
 
 from checks import Tally, check_of
@@ -126,6 +127,21 @@ def looks_beside_a_host(tally: Tally) -> None:
         tally.holds('issuer_cards_halted{partition="3"} 0.0\n' in told, f"the figures of a look: {told!r}")
 
 
+def follows_no_link(tally: Tally) -> None:
+    """A link that stands where a look writes its new figures is removed, and what it leads to stays as it is."""
+    with new_host(tally) as host:
+        figures, kept = f"{host.begun().folder}/figures", f"{host.folder}/kept"
+        with open(kept, "w", encoding="ascii") as text:
+            text.write("kept")
+        os.chmod(kept, 0o600)
+        os.symlink(kept, f"{figures}.new")
+        ran = run(tally, "look", *host.program, *host.files(), "--figures", figures)
+        told = [ran.returncode, os.path.islink(figures), stat.S_IMODE(os.stat(figures).st_mode)]
+        tally.expect(told, [Status.OK, False, 0o644], "the figures beside a link: status, a link, mode")
+        found = [content_of(kept), stat.S_IMODE(os.stat(kept).st_mode)]
+        tally.expect(found, ["kept", 0o600], "what the link leads to")
+
+
 CHECKS = [
     check_of(body)
     for body in (
@@ -139,5 +155,6 @@ CHECKS = [
         refuses_old_journals,
         copies_old_journals,
         looks_beside_a_host,
+        follows_no_link,
     )
 ]
