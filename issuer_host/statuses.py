@@ -49,8 +49,8 @@ class Meaning(NamedTuple):
 MEANINGS = {
     Status.OK: Meaning("the run ended"),
     Status.WORDS: Meaning(
-        "the words are no command: compare the unit with issuer(1)",
-        "the words are no command; ./issuer alone tells which there are",
+        "the arguments are no command: compare the unit with issuer(1)",
+        "the arguments are no command; ./issuer alone tells which there are",
         ends_again=True,
     ),
     Status.CONFIGURATION: Meaning(
