@@ -18,39 +18,54 @@ class FollowedJournal:
 
     def __init__(self, shard: int, name: str, index: int) -> None:
         self.shard = shard
-        self.index = index
         self.path = journal_path(name, shard)
         self.file = os.open(self.path, os.O_RDONLY | os.O_CLOEXEC)
-        # Where that record begins; None until the journal has its first line.
-        self.at: Optional[int] = None
-
-    def begin(self) -> None:
-        """Finds the record, if the journal has its first line."""
-        first = os.pread(self.file, len(VERSION_LINE), 0).decode("latin-1")
-        if first != VERSION_LINE:
-            if not VERSION_LINE.startswith(first):
-                raise Refusal(f"{self.path} is no journal of version 2")
-            if self.index:
-                raise Refusal(f"{self.path} is empty, and the standby has {self.index} of its records")
-            return
-        self.at = self.after_records(len(first), self.index)
-
-    def after_records(self, at: int, left: int) -> int:
-        """Returns where so many records end that begin there."""
-        while left:
-            text = os.pread(self.file, PIECE, at)
-            *whole, rest = text.split(b"\n", left)
-            if not whole:
-                what = f"{self.index - left} records, and the standby has {self.index}"
-                raise Refusal(f"{self.path} has {what}: they aren't of one history")
-            at += len(text) - len(rest)
-            left -= len(whole)
-        return at
+        self.go_to(index)
 
     def go_to(self, index: int) -> None:
         """Goes on from another record."""
         self.index = index
-        self.at = None
+        # Where that record begins; None until it is found.
+        self.at: Optional[int] = None
+        # How far it was looked for, and how many records are still before it.
+        self.passed = 0
+        self.left = index
+
+    def find(self, pieces: Optional[int] = None) -> int:
+        """Looks for the record that is written next, in so many pieces, or in all. Returns in how many it looked.
+
+        It is found once the journal has its first line and the records before it.
+        """
+        looked = 0
+        while self.at is None and (pieces is None or looked < pieces):
+            if not (self.passed or self.has_first_line()):
+                return looked
+            if self.left:
+                self.pass_over_piece()
+                looked += 1
+            if not self.left:
+                self.at = self.passed
+        return looked
+
+    def has_first_line(self) -> bool:
+        first = os.pread(self.file, len(VERSION_LINE), 0).decode("latin-1")
+        if first == VERSION_LINE:
+            self.passed = len(first)
+            return True
+        if not VERSION_LINE.startswith(first):
+            raise Refusal(f"{self.path} is no journal of version 2")
+        if self.index:
+            raise Refusal(f"{self.path} is empty, and the standby has {self.index} of its records")
+        return False
+
+    def pass_over_piece(self) -> None:
+        text = os.pread(self.file, PIECE, self.passed)
+        *whole, rest = text.split(b"\n", self.left)
+        if not whole:
+            what = f"{self.index - self.left} records, and the standby has {self.index}"
+            raise Refusal(f"{self.path} has {what}: they aren't of one history")
+        self.passed += len(text) - len(rest)
+        self.left -= len(whole)
 
     def check(self) -> None:
         """Refuses a journal that isn't the one that was opened, or that is shorter than what was written of it."""
@@ -68,8 +83,7 @@ class FollowedJournal:
         that was truncated before it. (Records of an old journal are copied many at a time, but that journal says
         which: they never change.)
         """
-        if self.at is None:
-            self.begin()
+        self.find()
         if self.at is None:
             return []
         *whole, rest = os.pread(self.file, PIECE, self.at).split(b"\n")

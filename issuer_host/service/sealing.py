@@ -6,8 +6,10 @@ from issuer_host.service.refusal import Refusal, tell
 from issuer_host.run_mark import lock_mark
 from issuer_host.service.seals import Seals, seals_of
 
-# So many pieces of a journal are sealed at a time, so that the bridge's loop goes on.
+# So many pieces of a journal are sealed at a time, and so many of all journals are looked through for the records that
+# are sealed next, so that the bridge's loop goes on.
 PIECES = 16
+LOOKED_PIECES = 256
 
 
 class Sealing:
@@ -33,17 +35,19 @@ class Sealing:
         self.durable[shard] = max(self.durable.get(shard, 0), count)
 
     def look(self) -> None:
-        """Seals what is durable."""
+        """Seals what is durable. Long journals that this run hasn't sealed yet take several looks."""
         if self.is_over:
             return
+        left = LOOKED_PIECES
         try:
             for shard, count in self.durable.items():
-                self.seal(shard, count)
+                left -= self.seal(shard, count, left)
         except (OSError, Refusal) as fault:
             tell(self.by, f"the journals aren't sealed any more until the next start: {fault}")
             self.close()
 
-    def seal(self, shard: int, durable: int) -> None:
+    def seal(self, shard: int, durable: int, most: int) -> int:
+        """Seals what is durable of a shard. Returns how many pieces were looked through, so many at most."""
         if shard not in self.journals and shard < MAX_SHARDS:
             followed = FollowedJournal(shard, self.name, 0)
             self.journals[shard] = followed, Seals(followed.path)
@@ -52,13 +56,17 @@ class Sealing:
             if followed.index != seals.count:
                 # (another process seals them too, or a run before this one did)
                 followed.go_to(seals.count)
+            looked = followed.find(most)
+            if followed.at is None:
+                return looked
             for _ in range(PIECES):
                 lines = followed.durable_lines(durable)
                 if not lines:
-                    return
+                    break
                 seals.append(seals_of(seals.last(), lines))
                 for line in lines:
                     followed.wrote(line)
+        return looked
 
     def close(self) -> None:
         self.is_over = True
