@@ -1,7 +1,8 @@
-//! Lines that were looked up and wait for their turns.
-ghost use Rattle.std.specs.Prelude.{◌≡◌, ◌<◌, ◌≤◌, ◌==◌, ℕ, List, [], ◌∷◌, ◌++◌, length, drop, slice_get, IfOk, MatchOption};
+//! What was looked up for lines, or for the records of a journal's lines, that wait for their turns.
+ghost use Rattle.std.specs.Prelude.{◌≡◌, ◌<◌, ◌≤◌, ◌==◌, ℕ, List, [], ◌∷◌, ◌++◌, length, slice_get, All, IfOk};
+ghost use Rattle.std.specs.List.{AllZip};
 ghost use Rattle.std.specs.Option.{option_map};
-ghost use Rattle.line_checks.specs.LookedUp.{AreLookUps};
+ghost use Rattle.line_checks.specs.LookedUp.{AreLookUps, IsLookedUpAgain, IsReady};
 ghost use Rattle.line_checks.specs.declared.lines_ahead.TheConstants.{MOST_AHEAD};
 
 use crate::in_lanes::check_in_lanes;
@@ -9,7 +10,6 @@ use crate::looked_up::LookedUp;
 use issuer_base::{NoMemory, Refusal};
 use issuer_setup::Issuer;
 use std::alloc::Global;
-use std::collections::VecDeque;
 use std::marker::Model;
 
 /// The most lines that are looked up ahead of their turns: as many as [`check_in_lanes`] takes.
@@ -20,12 +20,11 @@ pub const MOST_AHEAD: usize = 128;
 /// A contract sees the list.
 #[derive(Drop)]
 pub struct LinesAhead {
-    found: VecDeque<Result<LookedUp, Refusal>>,
+    found: Vec<Result<LookedUp, Refusal>>,
 }
 
 impl Model for LinesAhead {
-    ghost use Rattle.std.specs.Prelude.{◌≤◌, List, Result, length};
-    ghost use Rattle.std.specs.VecDeque.{deque_capacity};
+    ghost use Rattle.std.specs.Prelude.{◌≤◌, List, Result, length, vec_capacity};
     ghost use Rattle.issuer_base.specs.declared.answer.Refusal.{Refusal};
     ghost use Rattle.line_checks.specs.declared.looked_up.LookedUp.{LookedUp};
     ghost use Rattle.line_checks.specs.declared.lines_ahead.TheConstants.{MOST_AHEAD};
@@ -34,7 +33,7 @@ impl Model for LinesAhead {
 
     ghost view = { λ ahead. ahead.found.items };
 
-    ghost invariant = { λ ahead. (length ahead.found.items ≤ MOST_AHEAD) × (MOST_AHEAD ≤ deque_capacity ahead.found) };
+    ghost invariant = { λ ahead. (length ahead.found.items ≤ MOST_AHEAD) × (MOST_AHEAD ≤ vec_capacity ahead.found) };
 }
 
 impl LinesAhead {
@@ -43,7 +42,7 @@ impl LinesAhead {
         ensures { IfOk result (λ ahead. ahead ≡ []) }
     {
         Ok(LinesAhead {
-            found: VecDeque::with_capacity(alloc, MOST_AHEAD)?,
+            found: Vec::with_capacity(alloc, MOST_AHEAD)?,
         })
     }
 
@@ -75,24 +74,18 @@ impl LinesAhead {
         requires { length self.old < MOST_AHEAD }
         ensures { self.new ≡ self.old ++ found ∷ [] }
     {
-        self.found.push_back_reserved(found);
+        self.found.push_reserved(found);
     }
 
     /// Checks the cryptograms of the requests together, by [`check_in_lanes`]. What the look-ups gave stays.
     pub fn check(&mut self, issuer: &Issuer)
-        requires { (lines : List (List ℕ)) × AreLookUps issuer.now lines self.old }
+        requires { All (IsReady issuer.now) self.old }
+        ensures again { AllZip (IsLookedUpAgain issuer.now) self.old self.new }
         ensures same { (lines : List (List ℕ)) → AreLookUps issuer.now lines self.old
             → AreLookUps issuer.now lines self.new }
         ensures count { length self.new ≡ length self.old }
     {
-        check_in_lanes(issuer, self.found.make_contiguous());
-    }
-
-    /// What the look-up of the first line gave; `None` if there is none.
-    pub fn first(&self) -> Option<&Result<LookedUp, Refusal>>
-        ensures { MatchOption result (self.now ≡ []) (λ found. self.now ≡ found.now ∷ drop 1 self.now) }
-    {
-        self.found.front()
+        check_in_lanes(issuer, self.found.as_mut_slice());
     }
 
     /// What the look-up of the line with this index gave; `None` if there are not as many.
@@ -100,13 +93,6 @@ impl LinesAhead {
         ensures { option_map (λ found. found.now) result ≡ slice_get self.now index }
     {
         self.found.get(index)
-    }
-
-    /// Removes what the look-up of the first line gave, if there is one.
-    pub fn remove_first(&mut self)
-        ensures { self.new ≡ drop 1 self.old }
-    {
-        let _ = self.found.pop_front();
     }
 
     /// Removes all.

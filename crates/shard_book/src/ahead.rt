@@ -1,5 +1,5 @@
 //! Reads the records of a journal's next lines ahead, so that the cryptograms of their requests are checked together.
-ghost use Rattle.std.specs.Prelude.{◌≡◌, ◌≤◌, ◌<◌, ℕ, [], ◌∷◌, ◌++◌, length, take, drop};
+ghost use Rattle.std.specs.Prelude.{◌≡◌, ◌≤◌, ◌<◌, ℕ, [], ◌∷◌, ◌++◌, length, slice_get, take, drop, Some};
 ghost use Rattle.issuer_base.specs.declared.entry.Entry.{Entry};
 ghost use Rattle.line_checks.specs.declared.lines_ahead.TheConstants.{MOST_AHEAD};
 ghost use Rattle.shard_book.specs.LineAhead.{IsLineAhead};
@@ -10,8 +10,7 @@ use issuer_base::{Entry, NoMemory, Refusal};
 use issuer_setup::Issuer;
 use journal_rec::read_entry;
 use line_checks::{
-    CheckedCommand, CheckedOrder, CheckedStatus, LookedUp, MOST_AHEAD, check_in_lanes,
-    look_up_request,
+    CheckedCommand, CheckedOrder, CheckedStatus, LinesAhead, LookedUp, MOST_AHEAD, look_up_request,
 };
 use std::alloc::Global;
 use std::marker::Model;
@@ -22,7 +21,7 @@ use std::marker::Model;
 #[derive(Drop)]
 pub(crate) struct Ahead {
     entries: Vec<Entry>,
-    found: Vec<Result<LookedUp, Refusal>>,
+    found: LinesAhead,
 }
 
 impl Model for Ahead {
@@ -32,16 +31,16 @@ impl Model for Ahead {
 
     ghost Value = { ReadAhead };
 
-    ghost view = { λ ahead. record { entries = ahead.entries.items; found = ahead.found.items } };
+    ghost view = { λ ahead. record { entries = ahead.entries.items; found = ahead.found } };
 
-    ghost invariant = { λ ahead. (MOST_AHEAD ≤ vec_capacity ahead.entries) × (MOST_AHEAD ≤ vec_capacity ahead.found) };
+    ghost invariant = { λ ahead. MOST_AHEAD ≤ vec_capacity ahead.entries };
 }
 
 impl Ahead {
     /// No records, and room for those of [`MOST_AHEAD`] lines. No other call allocates.
     pub(crate) fn new(alloc: Global) -> Result<Ahead, NoMemory> {
         let entries = Vec::with_capacity(alloc, MOST_AHEAD)?;
-        let found = Vec::with_capacity(alloc, MOST_AHEAD)?;
+        let found = LinesAhead::new(alloc)?;
         Ok(Ahead { entries, found })
     }
 
@@ -59,11 +58,12 @@ impl Ahead {
         self.entries.as_slice()
     }
 
-    /// What was looked up for each of them.
-    pub(crate) fn found(&self) -> &[Result<LookedUp, Refusal>]
-        ensures { result.now ≡ self.now.found }
+    /// What was looked up for the record with this index.
+    pub(crate) fn found(&self, index: usize) -> &Result<LookedUp, Refusal>
+        requires { index < length self.now.found }
+        ensures { slice_get self.now.found index ≡ Some result.now }
     {
-        self.found.as_slice()
+        self.found.get(index).unwrap()
     }
 
     /// Reads up to [`MOST_AHEAD`] whole lines of a text from an offset on, as far as they are those of records, in place of
@@ -79,7 +79,7 @@ impl Ahead {
         self.entries.clear();
         self.found.clear();
         let end = self.read_lines(issuer, text, from);
-        check_in_lanes(issuer, self.found.as_mut_slice());
+        self.found.check(issuer);
         end
     }
 
@@ -89,7 +89,6 @@ impl Ahead {
         requires empty { (self.old.entries ≡ []) × (self.old.found ≡ []) }
         ensures next { AreNext text.now from self.new.entries result }
         ensures found { AreLookedUp issuer.now self.new }
-        ensures most { length self.new.entries ≤ MOST_AHEAD }
         ensures none { self.new.entries ≡ [] → (count : ℕ) → IsLineAhead (drop from text.now) count
             → IsNoRecord (take count (drop from text.now)) }
     {
@@ -114,7 +113,7 @@ impl Ahead {
         ensures added { self.new.entries ≡ self.old.entries ++ entry ∷ [] }
         ensures found { AreLookedUp issuer.now self.old → AreLookedUp issuer.now self.new }
     {
-        self.found.push_reserved(look_up_record(issuer, &entry));
+        self.found.add(look_up_record(issuer, &entry));
         self.entries.push_reserved(entry);
     }
 }

@@ -165,10 +165,9 @@ impl Rows {
         ensures memory { IfErr result (λ fault. fault ≢ LoadFault.NoMemory) }
         ensures same { AreSame self.old self.new }
     {
-        let found = ahead.found();
         for (i, entry) in ahead.entries().iter().enumerate() {
             let place = place + i as u64;
-            if !self.adopt(version, issuer, entry, &found[i], place) {
+            if !self.adopt(version, issuer, entry, ahead.found(i), place) {
                 return Err(version.bad_record(place));
             }
         }

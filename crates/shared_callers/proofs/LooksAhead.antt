@@ -1,8 +1,9 @@
--- The lines of a lane that were looked up ahead: one more of them, and the first of them.
-use Rattle.std.proofs.Common.{◌≡◌, ℕ, ◌+◌, zero, suc, List, [], ◌∷◌, ◌++◌, length, take, drop, Some, sym, ap, subst, ◌∙◌, arith, add-one}
-use Rattle.std.proofs.lemmas.Option.{same_Some, none-some}
+-- The lines of a lane that were looked up ahead: one more of them, and each by its index.
+use Rattle.std.proofs.Common.{◌≡◌, ℕ, ◌+◌, ◌<◌, zero, suc, List, [], ◌∷◌, ◌++◌, length, take, drop, get_or, Option, None, Some, IsSome, refl, sym, subst, ◌∙◌, arith}
+use Rattle.std.proofs.lemmas.Option.{same_Some, none-some, slice_get-get_or}
 use Rattle.std.specs.Prelude.{◌≢◌, IfOk, IfErr, Result, Ok, Err}
 use Rattle.std.specs.List.{slice_get, AllZip}
+use Rattle.std.specs.Option.{option_map}
 use Rattle.issuer_base.specs.declared.answer.Refusal.{Refusal}
 use Rattle.issuer_base.specs.declared.answer.Refusal.TheVariants.{BadCryptogram}
 use Rattle.issuer_setup.specs.IssuerSetup.{Setup}
@@ -34,17 +35,25 @@ module _ {A B : Type 0} (R : A → B → Type 0) where
   next-ahead (suc place) (suc index) (z ∷ xs) x ys y index_is is zips new =
       next-ahead place index xs x ys y (omega arith) is zips new
 
-  first-zip : (place : ℕ) (xs : List A) (x : A) (y : B) (ys : List B) → slice_get xs place ≡ Some x
-      → AllZip R (take (suc (length ys)) (drop place xs)) (y ∷ ys) → R x y × AllZip R (take (length ys) (drop (suc place) xs)) ys
-  first-zip place [] x y ys is zips = absurd (none-some x is)
-  first-zip zero (z ∷ xs) x y ys is zips = (subst (λ (z : A). R z y) (same_Some z x is) zips.0, zips.1)
-  first-zip (suc place) (z ∷ xs) x y ys is zips = first-zip place xs x y ys is zips
+  zip-there : (xs : List A) (ys : List B) (index : ℕ) (x : A) (y : B) → AllZip R (take (length ys) xs) ys → slice_get xs index ≡ Some x
+      → slice_get ys index ≡ Some y → R x y
+  zip-there [] ys index x y zips x_is y_is = absurd (none-some x x_is)
+  zip-there (z ∷ xs) [] index x y zips x_is y_is = absurd (none-some y y_is)
+  zip-there (z ∷ xs) (w ∷ ys) zero x y zips x_is y_is =
+      subst (λ (z : A). R z y) (same_Some z x x_is) (subst (λ (w : B). R z w) (same_Some w y y_is) zips.0)
+  zip-there (z ∷ xs) (w ∷ ys) (suc index) x y zips x_is y_is = zip-there xs ys index x y zips.1 x_is y_is
 
-  -- the first is that of the line at the index, and the others are those of the next lines
-  pub first-ahead : (place : ℕ) (xs : List A) (x : A) (y : B) (old new : List B) → old ≡ y ∷ drop 1 old → new ≡ drop 1 old
-      → slice_get xs place ≡ Some x → AllZip R (take (length old) (drop place xs)) old
-      → R x y × AllZip R (take (length new) (drop (place + 1) xs)) new
-  first-ahead place xs x y old new parts left is zips =
-      let parted : old ≡ y ∷ new = parts ∙ ap (λ more. y ∷ more) (sym left) in
-      let both = first-zip place xs x y new is (subst (λ (old : List B). AllZip R (take (length old) (drop place xs)) old) parted zips) in
-      (both.0, subst (λ (n : ℕ). AllZip R (take (length new) (drop n xs)) new) (sym (add-one place)) both.1)
+  -- what was looked up for a line, by its index and that of the first one
+  pub ahead-there : (first index : ℕ) (xs : List A) (x : A) (ys : List B) (y : B) → AllZip R (take (length ys) (drop first xs)) ys
+      → slice_get xs (first + index) ≡ Some x → slice_get ys index ≡ Some y → R x y
+  ahead-there zero index xs x ys y zips x_is y_is = zip-there xs ys index x y zips x_is y_is
+  ahead-there (suc first) index [] x ys y zips x_is y_is = absurd (none-some x x_is)
+  ahead-there (suc first) index (z ∷ xs) x ys y zips x_is y_is = ahead-there first index xs x ys y zips x_is y_is
+
+-- an index within a list has an element
+pub there : {A B : Type 0} (now : A → B) (found : Option A) (all : List B) (index : ℕ) → option_map now found ≡ slice_get all index → index < length all
+    → IsSome found
+there now (Some found) all index is within = refl
+there now None [] index is within = absurd (omega (arith, within))
+there now None (first ∷ all) index is within =
+    absurd (none-some (get_or (first ∷ all) index first) (is ∙ slice_get-get_or (first ∷ all) index first within))

@@ -44,7 +44,7 @@ pub(crate) struct Lane {
     pub(crate) pass: Pass,
     pub(crate) lines: PackedLines<KEPT_BYTES>,
 
-    /// The look-ups of the next lines that wait, while they are answered; empty otherwise.
+    /// The look-ups of some of the lines that wait, one after another, while they are answered.
     ahead: LinesAhead,
     pub(crate) texts: AnswerTexts,
 
@@ -108,29 +108,33 @@ impl Lane {
     {
         self.ahead.clear();
         self.texts.clear();
+        let mut first = 0;
         for place in 0..self.lines.len() {
-            self.look_ahead(host, place);
-            let found = self.ahead.first().unwrap();
+            first = self.look_ahead(host, first, place);
+            let found = self.ahead.get(place - first).unwrap();
             let answer = answer_line(rt, host, gate, &mut self.pass, self.number, found);
-            self.ahead.remove_first();
             self.texts.add(&answer);
             self.number = self.number.saturating_add(self.step);
         }
     }
 
-    /// Looks up lines ahead from this index on, unless some are.
-    fn look_ahead<S: Store>(&mut self, host: &Host<S>, place: usize)
-        requires within { place < length (waiting_lines self.old) }
-        requires ahead { AreLookUps host.now.issuer (looked_up_lines place self.old) self.old.ahead }
-        ensures ahead { AreLookUps host.now.issuer (looked_up_lines place self.new) self.new.ahead }
-        ensures some { 0 < length self.new.ahead }
+    /// Looks up lines ahead from this index on, unless the line with this index is among those that were looked up, the
+    /// first of which has the index `first`. Returns the index of the first one that is looked up then.
+    fn look_ahead<S: Store>(&mut self, host: &Host<S>, first: usize, place: usize) -> usize
+        requires within { (first ≤ place) × (place < length (waiting_lines self.old)) }
+        requires ahead { AreLookUps host.now.issuer (looked_up_lines first self.old) self.old.ahead }
+        ensures ahead { AreLookUps host.now.issuer (looked_up_lines result self.new) self.new.ahead }
+        ensures within { (result ≤ place) × (place < result + length self.new.ahead) }
         ensures same { (self.new.pass ≡ self.old.pass) × (self.new.lines ≡ self.old.lines)
             × (self.new.texts ≡ self.old.texts) }
     {
-        if self.ahead.is_empty() {
-            let count = MOST_AHEAD.min(self.lines.len() - place);
-            self.look_up_lines(host, place, place + count);
+        if place - first < self.ahead.len() {
+            return first;
         }
+        self.ahead.clear();
+        let count = MOST_AHEAD.min(self.lines.len() - place);
+        self.look_up_lines(host, place, place + count);
+        place
     }
 
     /// Looks up the lines from one index on up to another, and checks their cryptograms, together if they are many.

@@ -1,12 +1,18 @@
 -- The lines that wait are answered one after another, until all are.
-use Rattle.std.proofs.Common.{◌+◌, ℕ, List, drop, refl, ap, sym, subst, ◌∙◌, arith}
+use Rattle.std.proofs.Common.{◌+◌, ℕ, List, All, drop, refl, ap, sym, subst, ◌∙◌, arith}
 use Rattle.std.proofs.lemmas.List.{drop_all}
 use Rattle.std.specs.Option.{option_map}
 use Rattle.issuer_setup.specs.IssuerSetup.{Setup}
-use Rattle.line_checks.specs.LookedUp.{AreLookUps}
+use Rattle.line_checks.specs.LookedUp.{AreLookUps, IsReady}
+use Rattle.line_checks.proofs.LookUps.{all-ready}
 use Rattle.line_serving.proofs.AloneSteps.{first-of, found-there, from-place, parted-at, settling-none, settling-more, settles-alone}
 use Rattle.line_serving.proofs.DurableAlone.{recorded-more}
 use Rattle.line_serving.proofs.alone.AloneHost.settle_waiting.Goals as goal
+
+pub check-requires : goal.check-requires
+check-requires g c =
+    subst (λ (issuer : Setup). All (IsReady issuer) c.args.self.now.ahead) (sym c.issuer.ensures)
+    (all-ready c.args.self.now.host.issuer c.requires.looked_up.0 c.args.self.now.ahead c.requires.looked_up.1)
 
 pub loop-index-init : goal.loop-index-init
 loop-index-init g c =

@@ -12,9 +12,9 @@ pub returns-clause-found : goal.returns-clause-found
 returns-clause-found c its =
     let issuer = c.args.issuer.now in
     let entries : List Entry = c.self.inside.entries.items in
-    let found : List (Result LookedUp Refusal) = c.self.inside.found.items in
+    let found : List (Result LookedUp Refusal) = c.self.inside.found in
     let before : AllZip (IsLookedUp issuer) entries found =
     subst (λ (ahead : ReadAhead). AllZip (IsLookedUp issuer) ahead.entries ahead.found) (sym c.self.view_is) its in
-    subst (λ (entries : List Entry). AllZip (IsLookedUp issuer) entries c.push_reserved.new.self.items) (sym c.push_reserved-2.ensures.items)
-    (subst (AllZip (IsLookedUp issuer) (entries ++ c.args.entry ∷ [])) (sym c.push_reserved.ensures.items)
+    subst (λ (entries : List Entry). AllZip (IsLookedUp issuer) entries c.add.new.self) (sym c.push_reserved.ensures.items)
+    (subst (AllZip (IsLookedUp issuer) (entries ++ c.args.entry ∷ [])) (sym c.add.ensures)
     (all_zipped_more (IsLookedUp issuer) entries found c.args.entry c.look_up_record.result before c.look_up_record.ensures))

@@ -1,6 +1,5 @@
 -- One more line, whose record is added.
 use Rattle.std.proofs.Common.{◌≡◌, ◌+◌, ◌-◌, List, length, take, drop, ap, sym, subst, arith}
-use Rattle.std.proofs.lemmas.List.{length_push}
 use Rattle.std.proofs.lemmas.Slice.Zip.{AllZip-long}
 use Rattle.issuer_base.specs.declared.entry.Entry.{Entry}
 use Rattle.shard_book.specs.ReadAhead.{AreNext, IsLookedUp}
@@ -29,5 +28,4 @@ lines-preserved c =
           (subst (λ (entries : List Entry). AreNext text from entries (end + count + 1)) (sym c.add.ensures.added)
           (next-more text from entries end count entry line c.lines.invariant.next c.in-Some.ensures line_is ((c.read_entry.ensures entry).0 c.in-Ok.is)));
       found = c.add.ensures.found c.lines.invariant.found;
-      most = omega (arith, ap length c.add.ensures.added, length_push entries entry, c.lines-test.true, c.len.ensures);
     }

@@ -1,5 +1,5 @@
 -- The records so far are those of the lines so far.
-use Rattle.std.proofs.Common.{◌-◌, ◌≤◌, length}
+use Rattle.std.proofs.Common.{◌-◌, length}
 use Rattle.line_checks.specs.declared.lines_ahead.TheConstants.{MOST_AHEAD}
 use Rattle.shard_book.specs.ReadAhead.{AreLookedUp, AreNext}
 use Rattle.shard_book.proofs.ahead.Ahead.read_lines.Given as goal
@@ -8,7 +8,6 @@ abbrev pub invariant-lines : goal.invariant-lines
 invariant-lines l = record {
   next : AreNext l.text l.from l.self.entries l.end;
   found : AreLookedUp l.issuer l.self;
-  most : length l.self.entries ≤ MOST_AHEAD;
 }
 
 abbrev pub decreases-lines : goal.decreases-lines

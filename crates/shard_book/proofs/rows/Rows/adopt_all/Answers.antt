@@ -2,7 +2,7 @@
 use Rattle.std.proofs.Common.{◌≡◌, ◌+◌, ℕ, List, Result, Some, ◌++◌, get_or, length, take, ap, subst, sym, ◌∙◌, arith, length-append}
 use Rattle.std.proofs.lemmas.Bool.{false≢true}
 use Rattle.std.proofs.lemmas.List.{length-take-le}
-use Rattle.std.proofs.lemmas.Option.{slice_get-get_or}
+use Rattle.std.proofs.lemmas.Option.{get_or_from_slice_get, slice_get-get_or}
 use Rattle.std.proofs.lemmas.Slice.Zip.{AllZip-long}
 use Rattle.issuer_base.specs.declared.answer.Refusal.{Refusal}
 use Rattle.issuer_base.specs.declared.entry.Entry.{Entry}
@@ -14,13 +14,12 @@ use Rattle.shard_book.specs.Versions.{bad_record, grounds_in}
 use Rattle.shard_book.proofs.ReadAhead.{takes-next}
 use Rattle.shard_book.proofs.rows.Rows.adopt_all.Goals as goal
 
-pub bounds-found-i : goal.bounds-found-i
-bounds-found-i c =
+pub found-requires : goal.found-requires
+found-requires c =
     let ahead = c.args.ahead.now in
     omega (
       arith,
       AllZip-long (IsLookedUp c.args.issuer.now) ahead.entries ahead.found c.requires.found,
-      ap length c.found-found.ensures,
       ap length c.entries-entry-items.ensures,
     )
 
@@ -30,11 +29,10 @@ adopt-requires-clause-found c =
     let ahead = c.args.ahead.now in
     let i : ℕ = c.loop-i.i in
     let entry : Entry = c.entry-item.result in
-    let found : Result LookedUp Refusal = c.index-found-i.result in
+    let found : Result LookedUp Refusal = c.found.result.now in
     let entry_is : entry ≡ get_or ahead.entries i entry = c.entry-item.is ∙ ap (λ (es : List Entry). get_or es i entry) c.entries-entry-items.ensures in
-    let found_is : found ≡ get_or ahead.found i found =
-    c.index-found-i.is ∙ ap (λ (fs : List (Result LookedUp Refusal)). get_or fs i found) c.found-found.ensures in
-    subst (IsLookedUp issuer entry) (sym found_is)
+    let found_is : get_or ahead.found i found ≡ found = get_or_from_slice_get ahead.found i found found c.found.ensures in
+    subst (IsLookedUp issuer entry) found_is
     (subst (λ (entry : Entry). IsLookedUp issuer entry (get_or ahead.found i found)) (sym entry_is)
     (zip-at (IsLookedUp issuer) ahead.entries ahead.found i entry found c.requires.found (omega (arith, ap length c.entries-entry-items.ensures))))
 

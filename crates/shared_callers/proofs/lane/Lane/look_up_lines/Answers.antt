@@ -6,8 +6,13 @@ use Rattle.issuer_base.specs.declared.answer.Refusal.{Refusal}
 use Rattle.issuer_setup.specs.IssuerSetup.{Setup}
 use Rattle.line_checks.specs.LookedUp.{IsLookUp}
 use Rattle.line_checks.specs.declared.looked_up.LookedUp.{LookedUp}
+use Rattle.line_checks.proofs.LookUps.{all-ready}
+use Rattle.shared_callers.specs.OneLane.{looked_up_lines}
 use Rattle.shared_callers.proofs.LooksAhead.{look-up-is, next-ahead}
 use Rattle.shared_callers.proofs.lane.Lane.look_up_lines.Goals as goal
+
+pub check-requires : goal.check-requires
+check-requires g c = all-ready c.args.host.now.issuer (looked_up_lines c.args.place c.loop-index.self) c.loop-index.self.ahead c.loop-index.invariant.ahead
 
 pub loop-index-preserved : goal.loop-index-preserved
 loop-index-preserved g c =
