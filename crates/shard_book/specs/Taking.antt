@@ -2,16 +2,19 @@
 use Rattle.std.specs.Prelude.{◌≡◌, ◌⊎◌, ℕ, Bool, true, false, List, [], ◌∷◌, ◌++◌, length, Result, Ok, Err, IsErr, IsTrue}
 use Rattle.issuer_base.specs.Stores.{BothTold, LeavesOnly}
 use Rattle.issuer_base.specs.declared.entry.Entry.{Entry}
+use Rattle.issuer_base.specs.declared.answer.Refusal.{Refusal}
 use Rattle.issuer_base.specs.declared.outside.store.Store.{Ghosts}
 use Rattle.card_history.specs.LegalRecords.{IsLegal}
 use Rattle.issuer_setup.specs.IssuerSetup.{Setup}
-use Rattle.journal_rec.specs.Record.{is_record}
+use Rattle.journal_rec.specs.Record.{is_record, IsRecord}
 use Rattle.journal_rec.specs.RecordText.{text_of}
+use Rattle.line_checks.specs.declared.looked_up.LookedUp.{LookedUp}
 use Rattle.shard_book.specs.declared.shard.Shard.{Shard}
 use Rattle.shard_book.specs.declared.taking.TakeFault.{TakeFault}
 use Rattle.shard_book.specs.declared.taking.TakeFault.TheVariants.{NotLegal, StoreFault}
 use Rattle.shard_book.specs.Calls.{KeepsCall}
 use Rattle.shard_book.specs.Grounds.{grounds_of, IsImageOf}
+use Rattle.shard_book.specs.ReadAhead.{IsLookedUp}
 use Rattle.shard_book.specs.ShardRows.{RowsStandFor}
 use Rattle.shard_book.specs.Shards.{number_in, IsUnder, disk_in, HasTail, HoldsHistory, IsSettled}
 
@@ -19,6 +22,12 @@ use Rattle.shard_book.specs.Shards.{number_in, IsUnder, disk_in, HasTail, HoldsH
 abbrev pub is_failed_store : Result ℕ TakeFault → Bool
 is_failed_store (Err StoreFault) = true
 is_failed_store _ = false
+
+-- a record that was read: its text, and what was looked up for it
+pub record IsReadRecord (issuer : Setup) (entry : Entry) (text : List ℕ) (found : Result LookedUp Refusal) : Type 0 where
+  pub form : IsRecord entry
+  pub text_is : text ≡ text_of entry
+  pub looked_up : IsLookedUp issuer entry found
 
 module _ {S : Type 0} {G : Ghosts S} where
   -- a record of another host, well formed, for a shard of this issuer

@@ -119,7 +119,7 @@ impl Ahead {
 }
 
 /// Looks up the card of a record, and where the card's keys are for the request of a decision. It uses no key.
-pub(crate) fn look_up_record(issuer: &Issuer, entry: &Entry) -> Result<LookedUp, Refusal>
+pub fn look_up_record(issuer: &Issuer, entry: &Entry) -> Result<LookedUp, Refusal>
     ensures { IsLookedUp issuer.now entry.now result }
 {
     match entry {

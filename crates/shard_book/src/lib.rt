@@ -13,6 +13,7 @@ mod rows;
 mod shard;
 mod taking;
 
+pub use ahead::look_up_record;
 pub use newline::{first_newline, has_newline};
 pub use replay::{LoadFault, Version};
 pub use shard::{LoadBack, Shard};

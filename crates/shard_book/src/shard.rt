@@ -19,7 +19,7 @@ ghost use Rattle.shard_book.specs.Room.{most_of, UsesRoom, LoadsWithin};
 ghost use Rattle.shard_book.specs.Answering.{is_store_fault, LeavesTail, reported_after, AnswersClaimed, AnswersQueueing, AnswersSetting, AnswersOrder};
 ghost use Rattle.shard_book.specs.Calls.{AnswersBy, CountsPut, IsOrderFor, IsRequestFor, KeepsCall, KeepsShard, LeavesImages, LeavesImagesOf, LeavesPut, MayRecord};
 ghost use Rattle.shard_book.specs.Loads.{HaveRoom, IsLoadedFrom, IsNotLoaded, IsOnlyRead, IsOpenedFrom, LoadsAs, StoresWork};
-ghost use Rattle.shard_book.specs.Taking.{IsRecordFor, IsReplicaOf, KeepsReplica, LeavesReplicas, LeavesTaken, Takes, is_failed_store};
+ghost use Rattle.shard_book.specs.Taking.{IsReadRecord, IsRecordFor, IsReplicaOf, KeepsReplica, LeavesReplicas, LeavesTaken, Takes, is_failed_store};
 
 use crate::ahead::look_up_record;
 use crate::loading::take_over;
@@ -33,7 +33,7 @@ use issuer_base::{
 use issuer_setup::Issuer;
 use journal_rec::{write_decided, write_entry};
 use journal_store::Journal;
-use line_checks::{CheckedCommand, CheckedOrder, CheckedRequest, CheckedStatus};
+use line_checks::{CheckedCommand, CheckedOrder, CheckedRequest, CheckedStatus, LookedUp};
 use row_core::{Known, Launch, Row};
 use std::alloc::Global;
 
@@ -181,10 +181,32 @@ impl<S: Store> Shard<S> {
         ensures kept { KeepsReplica issuer.now self.old result self.new }
     {
         let found = look_up_record(issuer, entry);
-        let Some(accepted) = self.rows.accept(Version::Two, issuer, entry, &found) else {
+        self.take_looked_up(issuer, entry, write_entry(entry).as_slice(), &found)
+    }
+
+    /// Takes a record as [`Shard::take`] does, and appends this text, which is the record's. `found` is what
+    /// [`look_up_record`] gave for it, possibly with the verdict of [`check_in_lanes`](line_checks::check_in_lanes).
+    pub fn take_looked_up(
+        &mut self,
+        issuer: &Issuer,
+        entry: &Entry,
+        text: &[u8],
+        found: &Result<LookedUp, Refusal>,
+    ) -> Result<u64, TakeFault>
+        requires under { IsUnder issuer.now self.old }
+        requires read { IsReadRecord issuer.now entry.now text.now found.now }
+        ensures taken { (history : List Entry) → IsReplicaOf issuer.now self.old history
+            → Takes issuer.now self.old history entry.now result self.new }
+        ensures tail { (history : List Entry) (tail : List ℕ) → HasTail self.old history tail
+            → LeavesTaken entry.now history tail result self.new }
+        ensures crash { LeavesReplicas issuer.now self.old self.new }
+        ensures room { UsesRoom (most_of entry.now) (is_failed_store result) self.old self.new }
+        ensures kept { KeepsReplica issuer.now self.old result self.new }
+    {
+        let Some(accepted) = self.rows.accept(Version::Two, issuer, entry, found) else {
             return Err(TakeFault::NotLegal);
         };
-        let Ok(place) = self.put(entry) else {
+        let Ok(place) = self.put_text(text) else {
             return Err(TakeFault::StoreFault);
         };
         self.rows.apply_record(&accepted, place);
