@@ -231,13 +231,16 @@ def clear(options: Options, room: str, farm: Optional[Farm], disk: Optional[str]
     """Ends what runs, and keeps the files if that was asked for."""
     if farm:
         farm.end()
-    if options.keep:
-        ignored = shutil.ignore_patterns("notify-*", ".erlang.cookie")
-        shutil.copytree(room, options.keep, dirs_exist_ok=True, ignore=ignored)
-    if farm:
-        farm.broker.end()
-    if disk:
-        subprocess.run(["umount", disk], check=False)
+    try:
+        if options.keep:
+            # (sockets can't be copied)
+            ignored = shutil.ignore_patterns("notify-*", "orders-*", ".erlang.cookie")
+            shutil.copytree(room, options.keep, dirs_exist_ok=True, ignore=ignored)
+    finally:
+        if farm:
+            farm.broker.end()
+        if disk:
+            subprocess.run(["umount", disk], check=False)
 
 
 def main(words: Sequence[str]) -> int:
