@@ -113,12 +113,12 @@ impl<S: Store> Solo<S> {
             → LeaveBetween self.old.issuer books books self.old.shards.items self.new.shards.items }
         ensures issuer { self.new.issuer ≡ self.old.issuer }
     {
-        let found = look_up(&self.issuer, line, &mut self.data);
+        let found = self.look_ahead(line);
         self.answer(&found)
     }
 
-    /// What the look-up of a line without its newline gives, ahead of the line's turn. It reads no shard. As in
-    /// [`Solo::authorise`], a card's key for cryptograms is derived at the card's first request, and cached.
+    /// What the look-up of a line without its newline gives, ahead of the line's turn. It reads no shard. A card's key
+    /// for cryptograms is derived at the card's first request, and cached, whether the cryptogram is right or not.
     pub fn look_ahead(&mut self, line: &[u8]) -> Result<LookedUp, Refusal>
         ensures found { IsLookUp self.old.issuer line.now result }
         ensures same { (self.new.issuer ≡ self.old.issuer) × (self.new.shards.items ≡ self.old.shards.items) }
@@ -152,9 +152,6 @@ impl<S: Store> Solo<S> {
             Ok(LookedUp::Order(found)) => return self.order(found),
             Err(refusal) => return Answer::Refused(*refusal),
         };
-
-        // The card's key is cached before its use, whether the cryptogram is right or not.
-        self.issuer.keep(sought.slot);
         let checked = sought.check(&self.issuer);
         let found = match &checked {
             Ok(found) => found,

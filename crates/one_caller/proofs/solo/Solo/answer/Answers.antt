@@ -3,12 +3,11 @@ use Rattle.std.proofs.Common.{◌≡◌, ℕ, ◌+◌, ◌≤◌, List, Result, 
 use Rattle.std.specs.Result.{result_map_both}
 use Rattle.std.proofs.lemmas.Option.{slice_get_read}
 use Rattle.issuer_base.specs.declared.request.Request.{Request}
-use Rattle.issuer_base.specs.declared.outside.store.Store.{Ghosts}
 use Rattle.issuer_base.specs.declared.answer.Refusal.{Refusal}
 use Rattle.card_history.specs.Records.{card_of}
 use Rattle.card_history.specs.declared.decision.Asked.{Asked}
 use Rattle.card_history.specs.declared.decision.Asked.TheVariants.{Decide}
-use Rattle.issuer_setup.specs.IssuerSetup.{Setup, shard_of}
+use Rattle.issuer_setup.specs.IssuerSetup.{Setup}
 use Rattle.journal_rec.specs.declared.limits.TheConstants.{MOST_RECORD_BYTES}
 use Rattle.line_checks.specs.AtHand.{IsRequestAtHand}
 use Rattle.line_checks.specs.LookedUp.{IsLookUp}
@@ -20,14 +19,12 @@ use Rattle.line_checks.specs.declared.looked_up.LookedUpRequest.{LookedUpRequest
 use Rattle.line_checks.proofs.LookUps.{carried}
 use Rattle.line_checks.proofs.Numbers.{number-within}
 use Rattle.shard_book.specs.Replying.{reply_to}
-use Rattle.shard_book.specs.declared.shard.Shard.{Shard}
 use Rattle.shard_book.specs.Answering.{AnswersClaimed, is_store_fault}
 use Rattle.shard_book.proofs.Adopted.{checked-own}
 use Rattle.host_loading.specs.Books.{ShardBook}
-use Rattle.host_loading.specs.Hosts.{AreShards, Stand}
+use Rattle.host_loading.specs.Hosts.{Stand}
 use Rattle.host_loading.specs.StoreRoom.{HaveRoom}
 use Rattle.one_caller.specs.Room.{added_at, added_by}
-use Rattle.one_caller.specs.Runs.{LeaveBetween}
 use Rattle.one_caller.specs.Turns.{Turn}
 use Rattle.one_caller.proofs.OneShard.{IsCalled, card-at_home, shards-after, turn-after, crash-after, leave-uncalled}
 use Rattle.one_caller.proofs.Rooms.{checked-no_fault, read-no_fault, room-after, room-uncalled}
@@ -35,13 +32,12 @@ use Rattle.one_caller.proofs.solo.Solo.answer.Given.{Over}
 use Rattle.one_caller.proofs.solo.Solo.answer.Goals.{After-answer}
 use Rattle.one_caller.proofs.solo.Solo.answer.Goals as goal
 
--- what a check gave, in the issuer as it was before the card's key was cached
-says : (issuer kept : Setup) (request : Request) (result found : Result CheckedRequest Refusal) → kept ≡ issuer → result ≡ found
-    → result_map_both (λ (found : CheckedRequest). Decide found.request) (λ (refusal : Refusal). refusal) result ≡ checked kept request
+-- what a check gave
+says : (issuer : Setup) (request : Request) (result found : Result CheckedRequest Refusal) → result ≡ found
+    → result_map_both (λ (found : CheckedRequest). Decide found.request) (λ (refusal : Refusal). refusal) result ≡ checked issuer request
     → result_map_both (λ (found : CheckedRequest). Decide found.request) (λ (refusal : Refusal). refusal) found ≡ checked issuer request
-says issuer kept request result found same is its =
-    sym (ap (result_map_both (λ (found : CheckedRequest). Decide found.request) (λ (refusal : Refusal). refusal)) is)
-    ∙ its ∙ ap (λ (issuer : Setup). checked issuer request) same
+says issuer request result found is its =
+    sym (ap (result_map_both (λ (found : CheckedRequest). Decide found.request) (λ (refusal : Refusal). refusal)) is) ∙ its
 
 -- a request that passed its check passes it again
 passes : (issuer : Setup) (request : Request) (found : CheckedRequest) → Ok (Decide found.request) ≡ checked issuer request
@@ -60,14 +56,10 @@ at-hand : (issuer : Setup) (result : Result CheckedRequest Refusal) (found : Che
     → IsRequestAtHand issuer found
 at-hand issuer result found is its = subst (λ (result : Result CheckedRequest Refusal). IfOk result (IsRequestAtHand issuer)) is its
 
--- the shards are those of the issuer as its keys are cached
-are-kept : {S : Type 0} {G : Ghosts S} (issuer kept : Setup) (shards : List (Shard S G)) → kept ≡ issuer → AreShards issuer shards → AreShards kept shards
-are-kept issuer kept shards same are = subst (λ (issuer : Setup). AreShards issuer shards) (sym same) are
-
 -- the shard with its index is called with the request
-call : (g : Over) (c : After-answer g) → IsCalled c.keep.new.self c.args.self.now.shards.items (card_of c.in-Ok.found.request)
+call : (g : Over) (c : After-answer g) → IsCalled c.args.self.now.issuer c.args.self.now.shards.items (card_of c.in-Ok.found.request)
     c.home-shard.result c.index_mut.result.now c.answer.new.self c.answer.result
-    (λ shard old new. AnswersClaimed shard (reply_to c.keep.new.self) true old c.in-Ok.found.request c.answer.result new)
+    (λ shard old new. AnswersClaimed shard (reply_to c.args.self.now.issuer) true old c.in-Ok.found.request c.answer.result new)
 call g c =
     let its = c.answer.ensures in
     record {
@@ -82,8 +74,7 @@ call g c =
 asked : (g : Over) (c : After-answer g) (line : List ℕ) → IsLookUp c.args.self.now.issuer line c.args.found.now
     → Ok (Decide c.in-Ok.found.request) ≡ reading c.args.self.now.issuer line
 asked g c line looked_up =
-    says c.args.self.now.issuer c.keep.new.self c.in-Ok-Request.sought.request c.check-checked.result (Ok c.in-Ok.found) c.keep.ensures c.in-Ok.is
-    c.check-checked.ensures.request
+    says c.args.self.now.issuer c.in-Ok-Request.sought.request c.check-checked.result (Ok c.in-Ok.found) c.in-Ok.is c.check-checked.ensures.request
     ∙ sym (asks c.args.self.now.issuer line c.args.found.now c.in-Ok-Request.field-0 c.in-Ok-Request.sought c.in-Ok-Request.is
     (rw c.in-Ok-Request.is at c.in-Ok-Request.field-0-is) looked_up)
 
@@ -115,8 +106,8 @@ returns-in-Err-checked-clause-crash g c = leave-uncalled c.args.self.now.issuer 
 pub returns-in-Err-checked-clause-room : goal.returns-in-Err-checked-clause-room
 returns-in-Err-checked-clause-room g c line looked_up spare have =
     let host = c.args.self.now in
-    let refused = says host.issuer c.keep.new.self c.in-Ok-Request.sought.request c.check-checked.result (Err c.in-Err-checked.refusal) c.keep.ensures
-    c.in-Err-checked.is c.check-checked.ensures.request in
+    let refused = says host.issuer c.in-Ok-Request.sought.request c.check-checked.result (Err c.in-Err-checked.refusal) c.in-Err-checked.is
+    c.check-checked.ensures.request in
     let field_is = rw c.in-Ok-Request.is at c.in-Ok-Request.field-0-is in
     let asks = asks host.issuer line c.args.found.now c.in-Ok-Request.field-0 c.in-Ok-Request.sought c.in-Ok-Request.is field_is looked_up in
     let none = subst (λ (asked : Result Asked Refusal). HaveRoom (λ number. added_by host.issuer asked number + spare number) host.shards.items)
@@ -126,26 +117,23 @@ returns-in-Err-checked-clause-room g c line looked_up spare have =
 pub answer-requires : goal.answer-requires
 answer-requires g c =
     let host = c.args.self.now in
-    let shards = are-kept _ _ _ c.keep.ensures host.are_shards in
     let found = at-hand _ _ _ c.in-Ok.is c.check-checked.ensures.at_hand in
     let old_is = slice_get_read _ _ c.home-shard.result _ refl c.home-shard.ensures.within c.index_mut.ensures.value in
     record {
-      under = shards.under _ _ old_is;
-      home = card-at_home _ _ shards _ _ _ (number-within _ _ _ found.card_is.number_is) old_is c.home-shard.ensures.number;
+      under = host.are_shards.under _ _ old_is;
+      home = card-at_home _ _ host.are_shards _ _ _ (number-within _ _ _ found.card_is.number_is) old_is c.home-shard.ensures.number;
       at_hand = found;
       checked_is =
-          passes c.keep.new.self c.in-Ok-Request.sought.request c.in-Ok.found
-          (says c.keep.new.self c.keep.new.self c.in-Ok-Request.sought.request c.check-checked.result (Ok c.in-Ok.found) refl c.in-Ok.is
-          c.check-checked.ensures.request);
+          passes host.issuer c.in-Ok-Request.sought.request c.in-Ok.found
+          (says host.issuer c.in-Ok-Request.sought.request c.check-checked.result (Ok c.in-Ok.found) c.in-Ok.is c.check-checked.ensures.request);
     }
 
-pub invariant_of-self-3-clause-are_shards : goal.invariant_of-self-3-clause-are_shards
-invariant_of-self-3-clause-are_shards g c =
-    let after = (goal.at.invariant_of-self-3-clause-are_shards g c).After-answer in
-    shards-after (are-kept _ _ _ c.keep.ensures c.args.self.now.are_shards) (call g after)
+pub invariant_of-self-2-clause-are_shards : goal.invariant_of-self-2-clause-are_shards
+invariant_of-self-2-clause-are_shards g c =
+    shards-after c.args.self.now.are_shards (call g (goal.at.invariant_of-self-2-clause-are_shards g c).After-answer)
 
-pub invariant_of-self-3-clause-room : goal.invariant_of-self-3-clause-room
-invariant_of-self-3-clause-room g c =
+pub invariant_of-self-2-clause-room : goal.invariant_of-self-2-clause-room
+invariant_of-self-2-clause-room g c =
     let host = c.args.self.now in
     subst (λ count. count ≤ vec_capacity host.back) (sym (length-set host.shards.items c.home-shard.result c.answer.new.self)) host.room
 
@@ -153,22 +141,13 @@ pub returns-clause-turn : goal.returns-clause-turn
 returns-clause-turn g c line looked_up =
     let after = (goal.at.returns-clause-turn g c).After-answer in
     let host = c.args.self.now in
-    let kept = c.keep.new.self in
     let new = slice_set host.shards.items c.home-shard.result c.answer.new.self in
     subst (λ (says : Result Asked Refusal). (books : List ShardBook) → Stand host.issuer host.shards.items books
-    → (after : List ShardBook) × Stand kept new after × Turn host.issuer books says c.answer.result after)
-    (asked g after line looked_up)
-    (subst (λ (issuer : Setup). (books : List ShardBook) → Stand issuer host.shards.items books
-    → (after : List ShardBook) × Stand kept new after × Turn issuer books (Ok (Decide c.in-Ok.found.request)) c.answer.result after)
-    c.keep.ensures (turn-after (are-kept _ _ _ c.keep.ensures c.args.self.now.are_shards) (call g after)))
+    → (after : List ShardBook) × Stand host.issuer new after × Turn host.issuer books says c.answer.result after)
+    (asked g after line looked_up) (turn-after host.are_shards (call g after))
 
 pub returns-clause-crash : goal.returns-clause-crash
-returns-clause-crash g c =
-    let after = (goal.at.returns-clause-crash g c).After-answer in
-    let host = c.args.self.now in
-    subst (λ (issuer : Setup). (books : List ShardBook) → Stand issuer host.shards.items books
-    → LeaveBetween issuer books books host.shards.items (slice_set host.shards.items c.home-shard.result c.answer.new.self))
-    c.keep.ensures (crash-after (are-kept _ _ _ c.keep.ensures c.args.self.now.are_shards) (call g after))
+returns-clause-crash g c = crash-after c.args.self.now.are_shards (call g (goal.at.returns-clause-crash g c).After-answer)
 
 pub returns-clause-room : goal.returns-clause-room
 returns-clause-room g c line looked_up spare have =
@@ -177,7 +156,6 @@ returns-clause-room g c line looked_up spare have =
     let host = c.args.self.now in
     let decide = subst (λ (asked : Result Asked Refusal). HaveRoom (λ number. added_by host.issuer asked number + spare number) host.shards.items)
     (sym (asked g after line looked_up)) have in
-    let home = called.home_is ∙ ap (λ (issuer : Setup). shard_of issuer (card_of c.in-Ok.found.request)) c.keep.ensures in
     room-after host.shards.items c.home-shard.result MOST_RECORD_BYTES (is_store_fault c.answer.result) c.index_mut.result.now c.answer.new.self called.old_is
     c.answer.ensures.room spare
-    (subst (λ (home : ℕ). HaveRoom (λ number. added_at home MOST_RECORD_BYTES number + spare number) host.shards.items) (sym home) decide)
+    (subst (λ (home : ℕ). HaveRoom (λ number. added_at home MOST_RECORD_BYTES number + spare number) host.shards.items) (sym called.home_is) decide)

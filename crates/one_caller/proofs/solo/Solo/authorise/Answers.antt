@@ -1,31 +1,32 @@
--- A line is answered as its look-up is.
-use Rattle.std.proofs.Common.{Result, Ok, Err, IfOk, IfErr, ◌≡◌, ◌≢◌, List, ℕ}
-use Rattle.issuer_base.specs.declared.answer.Refusal.{Refusal}
-use Rattle.issuer_base.specs.declared.answer.Refusal.TheVariants.{BadCryptogram}
+-- A line is answered as its look-up is, which leaves issuer and shards unchanged.
+use Rattle.std.proofs.Common.{sym, subst, ◌∙◌}
 use Rattle.issuer_setup.specs.IssuerSetup.{Setup}
-use Rattle.line_checks.specs.LookedUp.{IsLookUp, IsSought}
-use Rattle.line_checks.specs.Reading.{reading}
-use Rattle.line_checks.specs.declared.looked_up.LookedUp.{LookedUp}
+use Rattle.line_checks.specs.LookedUp.{IsLookUp}
+use Rattle.one_caller.proofs.solo.Solo.authorise.Given.{Over}
+use Rattle.one_caller.proofs.solo.Solo.authorise.Goals.{After-look_ahead-found}
 use Rattle.one_caller.proofs.solo.Solo.authorise.Goals as goal
 
--- what a look-up gives, by its two clauses
-look-up-is : (issuer : Setup) (line : List ℕ) (found : Result LookedUp Refusal) → IfOk found (IsSought issuer line)
-    → IfErr found (λ refusal. (reading issuer line ≡ Err refusal) × (refusal ≢ BadCryptogram)) → IsLookUp issuer line found
-look-up-is issuer line (Ok sought) its refused = its
-look-up-is issuer line (Err refusal) its refused = refused
+-- what was looked up for the line
+looked_up : (g : Over) (c : After-look_ahead-found g) → IsLookUp c.look_ahead-found.new.self.issuer c.args.line.now c.look_ahead-found.result
+looked_up g c =
+    subst (λ (issuer : Setup). IsLookUp issuer c.args.line.now c.look_ahead-found.result) (sym c.look_ahead-found.ensures.same.0)
+    c.look_ahead-found.ensures.found
 
 pub answer-requires : goal.answer-requires
-answer-requires g c = (
-  c.args.line.now,
-  look-up-is c.args.self.now.issuer c.args.line.now c.look_up-found.result c.look_up-found.ensures.sought c.look_up-found.ensures.refused,
-)
+answer-requires g c = (c.args.line.now, looked_up g (goal.at.answer-requires g c).After-look_ahead-found)
 
 pub returns-clause-turn : goal.returns-clause-turn
 returns-clause-turn g c =
-    c.answer.ensures.turn c.args.line.now
-    (look-up-is c.args.self.now.issuer c.args.line.now c.look_up-found.result c.look_up-found.ensures.sought c.look_up-found.ensures.refused)
+    rw (← c.look_ahead-found.ensures.same.0, ← c.look_ahead-found.ensures.same.1)
+    (c.answer.ensures.turn c.args.line.now (looked_up g (goal.at.returns-clause-turn g c).After-look_ahead-found))
+
+pub returns-clause-unchanged : goal.returns-clause-unchanged
+returns-clause-unchanged g c idle = c.answer.ensures.unchanged idle ∙ c.look_ahead-found.ensures.same.1
 
 pub returns-clause-room : goal.returns-clause-room
 returns-clause-room g c =
-    c.answer.ensures.room c.args.line.now
-    (look-up-is c.args.self.now.issuer c.args.line.now c.look_up-found.result c.look_up-found.ensures.sought c.look_up-found.ensures.refused)
+    rw (← c.look_ahead-found.ensures.same.0, ← c.look_ahead-found.ensures.same.1)
+    (c.answer.ensures.room c.args.line.now (looked_up g (goal.at.returns-clause-room g c).After-look_ahead-found))
+
+pub returns-clause-crash : goal.returns-clause-crash
+returns-clause-crash g c = rw (← c.look_ahead-found.ensures.same.0, ← c.look_ahead-found.ensures.same.1) c.answer.ensures.crash
