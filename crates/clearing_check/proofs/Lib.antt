@@ -5,3 +5,4 @@ pub mod Numbers
 pub mod Blocks
 pub mod Opens
 pub mod OneLine
+pub mod LookUps

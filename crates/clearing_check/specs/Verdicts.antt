@@ -14,8 +14,7 @@ use Rattle.clearing_check.specs.declared.filed.Filed.{Filed}
 use Rattle.clearing_check.specs.Records.{has_atc, certify}
 use Rattle.clearing_check.specs.declared.verdict.Verdict.{Verdict}
 use Rattle.clearing_check.specs.declared.verdict.Verdict.TheVariants.{Lone, Differs, Declined, Against, Certified}
-use Rattle.clearing_check.specs.declared.presented.Presented.{Presented}
-use Rattle.clearing_check.specs.ClearingLine.{presented, is_aac}
+use Rattle.clearing_check.specs.ClearingLine.{Presented, presented, is_aac}
 
 -- what is filed of a decided request of the card with this number
 abbrev pub filed_under : ℕ → ℕ → Request → Reply → ℕ → Filed

@@ -1,17 +1,21 @@
 //! The book of a clearing check.
-ghost use Rattle.std.specs.Prelude.{◌≡◌, ◌++◌, [], length, drop, slice_get, option_map, IfOk, OnOk, OnErr, MatchOption};
+ghost use Rattle.std.specs.Prelude.{◌≡◌, ◌++◌, [], length, drop, slice_get, option_map, Result, IsSome, IfOk, OnOk, OnErr, MatchOption};
 ghost use Rattle.std.specs.List.{list_any, count_by};
 ghost use Rattle.std.specs.Option.{option_to_list};
 ghost use Rattle.clearing_check.specs.Records.{has_atc, is_certified, opens, place_of};
 ghost use Rattle.clearing_check.specs.NextOpen.{IsNextOpen};
-ghost use Rattle.clearing_check.specs.Verdicts.{filed_of, verdict, after_line};
+ghost use Rattle.clearing_check.specs.ClearingLine.{Presented, IsLookUp};
+ghost use Rattle.clearing_check.specs.Verdicts.{filed_of, verdict, verdict_on, records_after, after_line};
+ghost use Rattle.clearing_check.specs.declared.verdict.Verdict.{Verdict};
+ghost use Rattle.issuer_setup.specs.KeySlots.{keys_at};
 
 use crate::filed::Filed;
 use crate::filed_records::{FiledRecords, OpenRecord};
-use crate::presented::present;
-use crate::verdict::{Verdict, verdict_by};
-use issuer_base::{Entry, NoMemory};
+use crate::presented::{is_right, look_up};
+use crate::verdict::Verdict;
+use issuer_base::{Entry, MAX_CHIP_BYTES, NoMemory, Refusal};
 use issuer_setup::Issuer;
+use line_checks::LookedUpRequest;
 use std::alloc::Global;
 use std::marker::Model;
 
@@ -72,16 +76,32 @@ impl Book {
         ensures verdict { result ≡ verdict issuer.now self.old line.now }
         ensures certified { self.new ≡ after_line issuer.now self.old line.now }
     {
-        let found = match present(issuer, line) {
-            Ok(found) => found,
-            Err(verdict) => return verdict,
+        let mut data = [0; MAX_CHIP_BYTES];
+        let found = look_up(issuer, line, &mut data);
+        self.judge_presented(issuer, &found)
+    }
+
+    /// The verdict on a line that was looked up ([`PresentedAhead`]), as [`Book::judge`] gives it. Its cryptogram is
+    /// checked now, unless it was checked with others.
+    pub fn judge_presented(
+        &mut self,
+        issuer: &Issuer,
+        found: &Result<LookedUpRequest, Verdict>,
+    ) -> Verdict
+        requires known { IfOk found.now (λ sought. IsSome (keys_at issuer.now sought.slot)) }
+        ensures verdict { (presented : Result Presented Verdict) → IsLookUp issuer.now presented found.now
+            → result ≡ verdict_on self.old presented }
+        ensures certified { (presented : Result Presented Verdict) → IsLookUp issuer.now presented found.now
+            → self.new ≡ records_after self.old presented }
+    {
+        let sought = match found {
+            Ok(sought) => sought,
+            Err(verdict) => return *verdict,
         };
-        let atc = found.request.parts().atc;
-        let verdict = verdict_by(self.records.find(found.card, atc), &found.request);
-        if let Verdict::Certified { .. } = verdict {
-            self.records.certify(found.card, atc);
+        if !is_right(issuer, sought) {
+            return Verdict::Refused(Refusal::BadCryptogram);
         }
-        verdict
+        self.records.judge(sought.card, &sought.request)
     }
 
     /// Where the open record of this index is, its shard and its index in the shard's journal: of the approved records

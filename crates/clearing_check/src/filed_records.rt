@@ -1,13 +1,15 @@
 //! Records, filed for lookup by card and ATC.
-ghost use Rattle.std.specs.Prelude.{◌≡◌, ◌+◌, ◌<◌, ◌++◌, [], ◌∷◌, length, drop, slice_get, option_map, find, count_by, IfOk, OnOk, OnErr, MatchOption};
+ghost use Rattle.std.specs.Prelude.{◌≡◌, ◌+◌, ◌<◌, ◌++◌, [], ◌∷◌, length, drop, slice_get, option_map, find, count_by, IfOk, OnOk, OnErr, MatchOption, ℕ, if◌then◌else◌};
 ghost use Rattle.std.specs.List.{position_or_len};
 ghost use Rattle.clearing_check.specs.Records.{has_atc, is_certified, opens, place_of, certify};
 ghost use Rattle.clearing_check.specs.NextOpen.{IsNextOpen};
+ghost use Rattle.clearing_check.specs.Verdicts.{verdict_by, certifies};
 
 use crate::atc_pages::AtcPages;
 use crate::filed::Filed;
 use crate::open_counts::{OpenCounts, is_open};
-use issuer_base::NoMemory;
+use crate::verdict::{Verdict, verdict_by};
+use issuer_base::{NoMemory, Request};
 use std::alloc::Global;
 use std::marker::Model;
 
@@ -98,7 +100,30 @@ impl FiledRecords {
     pub fn find(&self, card: u32, atc: u16) -> Option<Filed>
         ensures { result ≡ find (has_atc card atc) self.now }
     {
-        self.records.get(self.number_of(card, atc)).copied()
+        self.record(self.number_of(card, atc))
+    }
+
+    /// The record with this number, if there is one.
+    fn record(&self, number: usize) -> Option<Filed>
+        ensures { (card atc : ℕ) → number ≡ position_or_len (has_atc card atc) self.now
+            → result ≡ find (has_atc card atc) self.now }
+    {
+        self.records.get(number).copied()
+    }
+
+    /// The verdict on a request of the card with this number, by the first record of its ATC. A record that it certifies
+    /// is certified. The record is looked up once.
+    pub(crate) fn judge(&mut self, card: u32, request: &Request) -> Verdict
+        ensures verdict { result ≡ verdict_by (find (has_atc card request.now.atc) self.old) request.now }
+        ensures certified { self.new
+            ≡ if certifies result then certify card request.now.atc self.old else self.old }
+    {
+        let number = self.number_of(card, request.parts().atc);
+        let verdict = verdict_by(self.record(number), request);
+        if let Verdict::Certified { .. } = verdict {
+            self.certify_at(number);
+        }
+        verdict
     }
 
     /// Certifies the first record of this ATC of the card. A record that is certified stays certified.
@@ -106,6 +131,14 @@ impl FiledRecords {
         ensures { self.new ≡ certify card atc self.old }
     {
         let number = self.number_of(card, atc);
+        self.certify_at(number);
+    }
+
+    /// Certifies the record with this number, if there is one.
+    fn certify_at(&mut self, number: usize)
+        ensures { (card atc : ℕ) → number ≡ position_or_len (has_atc card atc) self.old
+            → self.new ≡ certify card atc self.old }
+    {
         if number < self.records.len() {
             self.blocks.certify(self.records.as_slice(), number);
             self.groups.certify(self.records.as_slice(), number);

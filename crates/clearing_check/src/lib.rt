@@ -9,10 +9,12 @@ mod filed_records;
 mod lines;
 mod open_counts;
 mod presented;
+mod presented_ahead;
 mod verdict;
 
 pub use book::Book;
 pub use filed::Filed;
 pub use filed_records::{FiledRecords, OpenRecord};
 pub use lines::{write_open, write_total, write_verdict};
+pub use presented_ahead::PresentedAhead;
 pub use verdict::Verdict;

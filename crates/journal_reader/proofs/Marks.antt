@@ -5,10 +5,9 @@ use Rattle.std.proofs.lemmas.Bool.{cases_Bool, cond-true, cond-false, and_left, 
 use Rattle.issuer_base.specs.declared.request.Request.{Request}
 use Rattle.issuer_setup.specs.IssuerSetup.{Setup}
 use Rattle.clearing_check.specs.declared.filed.Filed.{Filed}
-use Rattle.clearing_check.specs.declared.presented.Presented.{Presented}
 use Rattle.clearing_check.specs.declared.verdict.Verdict.{Verdict}
 use Rattle.clearing_check.specs.ClearText.{after_lines, verdict_text, verdicts_text}
-use Rattle.clearing_check.specs.ClearingLine.{presented}
+use Rattle.clearing_check.specs.ClearingLine.{Presented, presented}
 use Rattle.clearing_check.specs.Records.{has_atc}
 use Rattle.clearing_check.specs.Verdicts.{agrees, verdict_by, verdict_on, verdict, certifies, records_after, after_line}
 use Rattle.journal_reader.proofs.Members.{Every}

@@ -16,11 +16,10 @@ use Rattle.issuer_setup.specs.CardList.{name_of, number_of}
 use Rattle.issuer_setup.specs.IssuerSetup.{Setup}
 use Rattle.issuer_setup.proofs.CardListLemmas.{number_of-found}
 use Rattle.clearing_check.specs.declared.filed.Filed.{Filed}
-use Rattle.clearing_check.specs.declared.presented.Presented.{Presented}
 use Rattle.clearing_check.specs.declared.verdict.Verdict.{Verdict}
 use Rattle.clearing_check.specs.declared.verdict.Verdict.TheVariants.{Certified}
 use Rattle.clearing_check.specs.ClearText.{after_lines, verdicts_text}
-use Rattle.clearing_check.specs.ClearingLine.{is_aac, is_final, is_tc, presented}
+use Rattle.clearing_check.specs.ClearingLine.{Presented, is_aac, is_final, is_tc, presented}
 use Rattle.clearing_check.specs.Records.{has_atc, is_certified, opens, place_of}
 use Rattle.clearing_check.specs.Verdicts.{agrees, certifies, filed_under, verdict, verdict_by, verdict_on}
 use Rattle.journal_reader.specs.Filing.{filed_records}

@@ -14,10 +14,9 @@ use Rattle.issuer_setup.specs.CardList.{number_of}
 use Rattle.issuer_setup.specs.IssuerSetup.{Setup, keys_of}
 use Rattle.line_checks.specs.Reading.{is_right}
 use Rattle.clearing_check.specs.declared.filed.Filed.{Filed}
-use Rattle.clearing_check.specs.declared.presented.Presented.{Presented}
 use Rattle.clearing_check.specs.declared.verdict.Verdict.{Verdict}
 use Rattle.clearing_check.specs.declared.verdict.Verdict.TheVariants.{Refused, WrongKind, Lone, Differs, Declined, Against, Certified}
-use Rattle.clearing_check.specs.ClearingLine.{is_aac, is_final, under_keys, of_card, of_data, of_form, presented}
+use Rattle.clearing_check.specs.ClearingLine.{Presented, is_aac, is_final, under_keys, of_card, of_data, of_form, presented}
 use Rattle.clearing_check.specs.Records.{has_atc, place_of}
 use Rattle.clearing_check.specs.Verdicts.{agrees, verdict_by, verdict_on, certifies}
 use Rattle.journal_reader.specs.Accounts.{certifies_at}

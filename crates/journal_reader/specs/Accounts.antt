@@ -11,11 +11,10 @@ use Rattle.issuer_setup.specs.CardList.{number_of}
 use Rattle.issuer_setup.specs.IssuerSetup.{Setup}
 use Rattle.line_checks.specs.RequestFacts.{HasValidAc}
 use Rattle.clearing_check.specs.declared.filed.Filed.{Filed}
-use Rattle.clearing_check.specs.declared.presented.Presented.{Presented}
 use Rattle.clearing_check.specs.declared.verdict.Verdict.{Verdict}
 use Rattle.clearing_check.specs.declared.verdict.Verdict.TheVariants.{Certified}
 use Rattle.clearing_check.specs.ClearText.{after_lines, verdict_text, verdicts_text}
-use Rattle.clearing_check.specs.ClearingLine.{is_tc, presented}
+use Rattle.clearing_check.specs.ClearingLine.{Presented, is_tc, presented}
 use Rattle.clearing_check.specs.Records.{is_certified, opens, place_of}
 use Rattle.clearing_check.specs.Verdicts.{verdict}
 use Rattle.journal_reader.specs.Filing.{filed_records}

@@ -8,12 +8,12 @@ use Rattle.clearing_check.specs.Inside.{AreFiled}
 use Rattle.clearing_check.specs.OpenCounts.{CountOpens}
 use Rattle.clearing_check.proofs.Opens.{numbers-certified}
 use Rattle.clearing_check.proofs.FirstPlace.{certify-at, certify-none}
-use Rattle.clearing_check.proofs.filed_records.FiledRecords.certify.Goals as goal
+use Rattle.clearing_check.proofs.filed_records.FiledRecords.certify_at.Goals as goal
 
 pub invariant_of-self : goal.invariant_of-self
 invariant_of-self c =
     let items = c.self.inside.records.items in
-    let n = c.number_of-number.result in
+    let n = c.args.number in
     let found = c.index_mut.result.now in
     let after = set items n (certified (get_or items n found)) in
     let old = c.self.invariant in
@@ -49,19 +49,17 @@ invariant_of-self c =
     (ap (λ (x : Filed). set items n (certified x)) (sym c.index_mut.ensures.value)) filed
 
 pub returns-then-number-len : goal.returns-then-number-len
-returns-then-number-len c =
+returns-then-number-len c = λ card atc is.
     let within = c.if-number-len.true in
     let len = c.len.ensures in
-    let place =
-    c.number_of-number.ensures ∙ ap (position_or_len (has_atc c.args.card c.args.atc)) (sym c.self.view_is) in
-    certify-at c.args.card c.args.atc c.self.inside.records.items c.number_of-number.result c.index_mut.result.now place
+    let place = is ∙ ap (position_or_len (has_atc card atc)) (sym c.self.view_is) in
+    certify-at card atc c.self.inside.records.items c.args.number c.index_mut.result.now place
     (omega (arith, within, len)) c.index_mut.ensures.value
-    ∙ ap (certify c.args.card c.args.atc) c.self.view_is
+    ∙ ap (certify card atc) c.self.view_is
 
 pub returns-else-number-len : goal.returns-else-number-len
-returns-else-number-len c =
+returns-else-number-len c = λ card atc is.
     let past = c.if-number-len.false in
     let len = c.len.ensures in
-    let place = c.number_of-number.ensures in
     let records = ap length c.self.view_is in
-    certify-none c.args.card c.args.atc c.args.self.now (omega (arith, past, len, place, records))
+    certify-none card atc c.args.self.now (omega (arith, past, len, is, records))
