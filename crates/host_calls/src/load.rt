@@ -64,8 +64,9 @@ impl<S: Store> Host<S> {
         open(alloc, issuer, &old, olds, &before, lists)
     }
 
-    /// Loads a host as [`load`](Host::load) does, but its shards at once, in at most so many threads. The first shard in
-    /// their order that can't be loaded is named. The stores behind it may have been loaded meanwhile.
+    /// Loads a host as [`load`](Host::load) does. If there are several callers, it loads the shards at once, in a thread
+    /// for each. The first shard in order that can't be loaded is named. The stores after it may have been loaded
+    /// meanwhile.
     pub fn load_together<R: Threads + Sync>(
         rt: &R,
         alloc: Global,

@@ -6,7 +6,7 @@ ghost use Rattle.host_loading.specs.StoreRoom.{StoresWork};
 ghost use Rattle.host_loading.specs.Slots.{HasEnded, HasTried, HaveTried, IsFirstFailed, IsWaiting, fault_in, left_in, loaded_as, store_of};
 
 use crate::loading::{HostBack, Lists};
-use issuer_base::Store;
+use issuer_base::{MAX_SHARDS, Store};
 use issuer_setup::Issuer;
 use shard_book::{LoadBack, LoadFault, Shard};
 use std::alloc::Global;
@@ -65,10 +65,10 @@ impl<S: Store> Slot<S> {
     }
 }
 
-/// Loads the shards as [`load_all`](crate::load_all) does, but at once, in at most so many threads. The first shard in
-/// their order that can't be loaded is named, and the stores are returned in order. Those behind it may have been
-/// loaded meanwhile. If memory for the work itself runs out, the stores are returned as they were, and the error names
-/// shard 0.
+/// Loads the shards as [`load_all`](crate::load_all) does. If there are several callers, it loads them at once, in a
+/// thread for each shard: the shards that still load share the processors. The first shard in order that can't be
+/// loaded is named, and the stores are returned in order. Those after it may have been loaded meanwhile. If memory for
+/// the work itself runs out, the stores are returned as they were, and the error names shard 0.
 pub fn load_together<S: Store + Send, R: Threads + Sync>(
     rt: &R,
     alloc: Global,
@@ -141,7 +141,7 @@ fn fill<S: Store>(mut slots: Vec<Slot<S>>, olds: &mut Vec<S>, mut stores: Vec<S>
     slots
 }
 
-/// Loads the shard of each slot, in at most so many threads.
+/// Loads the shard of each slot: if there are several callers, in a thread for each.
 fn load_slots<S: Store + Send, R: Threads + Sync>(
     rt: &R,
     alloc: Global,
@@ -151,13 +151,13 @@ fn load_slots<S: Store + Send, R: Threads + Sync>(
 )
     requires count { (length slots.old ≡ issuer.now.shards) × (issuer.now.shards ≤ MAX_SHARDS) }
     requires waiting { All (λ slot. IsWaiting slot) slots.old }
-    requires callers { 0 < callers }
     ensures { HaveTried issuer.now slots.old slots.new }
 {
+    let threads = if callers > 1 { MAX_SHARDS } else { 1 };
     thread::for_each_mut(
         rt,
         slots,
-        usize::from(callers),
+        usize::from(threads),
         &|number: usize, slot: &mut Slot<S>|
             requires { (number < issuer.now.shards) × (issuer.now.shards ≤ MAX_SHARDS) × IsWaiting slot.now }
             ensures { (store : S) → slot.entry.now.store ≡ Some store

@@ -51,7 +51,7 @@ where
     }
 }
 
-/// The host of more than one caller, likewise. Its shards are loaded at once.
+/// The host of more than one caller, likewise. Its shards are loaded at once, in a thread for each.
 fn load_together<R: Threads + Sync, D: Desk>(
     rt: &R,
     alloc: Global,
