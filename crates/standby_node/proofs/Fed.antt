@@ -22,7 +22,7 @@ use Rattle.standby_node.proofs.Shards.{leaves-same, leaves-then, shards-same, sh
 use Rattle.standby_node.proofs.Streams.{takes-push}
 
 -- one more line is counted, up to the greatest count
-counted-more : (lines : ℕ) → line_number (line_count lines) ≡ line_number lines
+pub counted-more : (lines : ℕ) → line_number (line_count lines) ≡ line_number lines
 counted-more lines = omega arith
 
 module _ {S : Type 0} {G : Ghosts S} (issuer : Setup) (in_doubt : ℕ → Bool) (opening : List (List Entry)) (stream : List ℕ) (old : Standby S G)

@@ -7,3 +7,5 @@ pub mod OneLine
 pub mod Taken
 pub mod Pieces
 pub mod Fed
+pub mod Ahead
+pub mod Ready

@@ -12,7 +12,7 @@ use Rattle.shard_book.specs.declared.taking.TakeFault.{TakeFault}
 use Rattle.shard_book.specs.declared.taking.TakeFault.TheVariants.{NotLegal, StoreFault as StoreFailed}
 use Rattle.shard_book.specs.Grounds.{IsImageOf, grounds_of}
 use Rattle.journal_rec.specs.RecordText.{text_of}
-use Rattle.shard_book.specs.Shards.{HasTail, IsSettled, disk_in}
+use Rattle.shard_book.specs.Shards.{HasTail, IsSettled, disk_in, places_in}
 use Rattle.shard_book.specs.Taking.{IsReplicaOf, LeavesReplicas}
 use Rattle.shard_book.specs.Histories.{GoesOn}
 use Rattle.shard_book.proofs.Histories.{goes-none}
@@ -24,6 +24,7 @@ use Rattle.standby_node.specs.declared.line.FeedFault.{FeedFault}
 use Rattle.standby_node.specs.declared.line.FeedFault.TheVariants.{BadFeed, StoreFault}
 use Rattle.standby_node.specs.FeedLines.{IsBadLine, IsFor, IsLegalLine, IsNext}
 use Rattle.standby_node.specs.OneLine.{Does, IsNextOf, TakesAt}
+use Rattle.standby_node.specs.ReadLines.{IsAt, IsBadAnyway, IsBehind, IsNoLine}
 use Rattle.standby_node.specs.Standing.{Hold, LeavesBetween}
 use Rattle.standby_node.proofs.Shards.{hold-set, leaves-same, leaves-set, replica-by, settled-by}
 
@@ -173,3 +174,68 @@ module _ {S : Type 0} {G : Ghosts S} (issuer : Setup) (shards : List (Shard S G)
       by history history_is (Ok done) = line-done short number place rest head old new old_is crash history history_is
       by history history_is (Err NotLegal) = line-refused short number place rest head old new old_is crash history history_is
       by history history_is (Err StoreFailed) = line-failed short number place rest head old new old_is crash history history_is
+
+  -- a line whose index its shard has
+  pub line-behind : IsBehind histories line → DoesTo issuer in_doubt histories shards line bad (Ok tt) shards
+  line-behind is =
+      let behind = is.behind in (
+        histories,
+        (
+          inl (
+            record {
+              shard = is.shard;
+              place = is.place;
+              rest = is.rest;
+              history = is.history;
+              is_for = is.is_for;
+              elsewhere = λ same. omega (arith, same, behind);
+            },
+            refl,
+          ),
+          hold,
+        ),
+        leaves-same issuer shards are in_doubt histories hold,
+      )
+
+  pub line-bad_anyway : IsBadAnyway histories line → DoesTo issuer in_doubt histories shards line bad (Err (BadFeed bad)) shards
+  line-bad_anyway (inl long) = line-bad (inl long)
+  line-bad_anyway (inr (inl none)) = line-bad (inr (inl none))
+  line-bad_anyway (inr (inr names)) = line-bad (inr (inr (inl names)))
+
+  -- what follows the index of a line isn't the line of a record that is taken
+  module _ (number place : ℕ) (IsRest : List ℕ → Type 0) (at : IsAt histories line number place IsRest) (shard : Shard S G)
+      (shard_is : slice_get shards number ≡ Some shard) where
+    many : places_in shard ≡ length at.history
+    many =
+        let replica = replica-by issuer shard at.history (in_doubt number) (hold.each number shard at.history shard_is at.is_for.history_is) in
+        replica.journal_holds.holds.count_is
+
+    pub line-elsewhere : place ≢ places_in shard → DoesTo issuer in_doubt histories shards line bad (Ok tt) shards
+    line-elsewhere apart = (
+      histories,
+      (
+        inl (
+          record {
+            shard = number;
+            place = place;
+            rest = at.rest;
+            history = at.history;
+            is_for = at.is_for;
+            elsewhere = λ same. apart (same ∙ sym many);
+          },
+          refl,
+        ),
+        hold,
+      ),
+      leaves-same issuer shards are in_doubt histories hold,
+    )
+
+    pub line-no_record : IsNoLine at.rest → place ≡ places_in shard → DoesTo issuer in_doubt histories shards line bad (Err (BadFeed bad)) shards
+    line-no_record none same =
+        line-bad (inr (inr (inr (record {
+          shard = number;
+          history = at.history;
+          rest = at.rest;
+          is_for = subst (λ (p : ℕ). IsFor histories line number p at.rest at.history) (same ∙ many) at.is_for;
+          none = λ entry legal. none entry legal.line_is;
+        }))))

@@ -16,7 +16,7 @@ use Rattle.shard_book.specs.Answering.{reported_after}
 use Rattle.shard_book.specs.Calls.{KeepsCall}
 use Rattle.shard_book.specs.Grounds.{IsImageOf, grounds_of}
 use Rattle.shard_book.specs.Histories.{GoesOn}
-use Rattle.shard_book.specs.Shards.{HoldsHistory, IsSettled, IsUnder, IsUndoubted, disk_in, number_in}
+use Rattle.shard_book.specs.Shards.{HoldsHistory, IsSettled, IsUnder, IsUndoubted, disk_in, number_in, places_in}
 use Rattle.shard_book.specs.Taking.{IsReplicaOf}
 use Rattle.shard_book.proofs.Histories.{goes-none, goes-then}
 use Rattle.shard_book.proofs.Replicas.{stands-replica}
@@ -185,6 +185,19 @@ module _ {S : Type 0} {G : Ghosts S} (issuer : Setup) where
       → MatchBool b (IsReplicaOf issuer shard history) (IsSettled issuer shard history)
   settled-by shard history true settled = stands-replica issuer shard history settled.stands
   settled-by shard history false settled = settled
+
+  -- a shard has as many records as its history
+  pub history-at : (shards : List (Shard S G)) (in_doubt : ℕ → Bool) (histories : List (List Entry)) → Hold issuer in_doubt shards histories
+      → (number : ℕ) (shard : Shard S G) → slice_get shards number ≡ Some shard
+      → (history : List Entry) × (slice_get histories number ≡ Some history) × (places_in shard ≡ length history)
+  history-at shards in_doubt histories hold number shard shard_is =
+      let within = slice_get_within shards number shard shard_is in
+      let count = hold.count_is in
+      let found = read-within histories number (omega (arith, within, count)) in (
+        found.0,
+        found.1,
+        (replica-by shard found.0 (in_doubt number) (hold.each number shard found.0 shard_is found.1)).journal_holds.holds.count_is,
+      )
 
   between : (number : ℕ) (before after : Shard S G) (first last : List Entry) → GoesOn first last
       → BothTold (LeavesOnly (IsImageOf (grounds_of issuer) number first)) (disk_in before) (disk_in after)

@@ -2,5 +2,6 @@
 pub mod FeedLines
 pub mod Streams
 pub mod Standing
+pub mod ReadLines
 pub mod Primary
 pub mod OneLine

@@ -1,9 +1,11 @@
 -- What one whole line does to the shards of a node, and to the one that it names: for private contracts alone.
 use Rattle.std.specs.Prelude.{◌≡◌, ◌≢◌, ◌⊎◌, ℕ, Bool, ◌||◌, ◌==◌, true, false, List, [], ◌∷◌, ◌++◌, length}
 use Rattle.std.specs.Prelude.{Result, Ok, Err}
+use Rattle.std.specs.List.{AllByRecursion}
 use Rattle.issuer_base.specs.declared.entry.Entry.{Entry}
 use Rattle.issuer_base.specs.declared.outside.store.Store.{Ghosts}
 use Rattle.issuer_setup.specs.IssuerSetup.{Setup}
+use Rattle.line_reader.specs.Lines.{IsUnbroken}
 use Rattle.shard_book.specs.declared.shard.Shard.{Shard}
 use Rattle.shard_book.specs.declared.taking.TakeFault.{TakeFault}
 use Rattle.shard_book.specs.declared.taking.TakeFault.TheVariants.{NotLegal, StoreFault as StoreFailed}
@@ -12,8 +14,10 @@ use Rattle.shard_book.specs.Shards.{number_in, HasTail, IsSettled}
 use Rattle.shard_book.specs.Taking.{IsReplicaOf}
 use Rattle.standby_node.specs.declared.line.FeedFault.{FeedFault}
 use Rattle.standby_node.specs.declared.line.FeedFault.TheVariants.{BadFeed, StoreFault}
+use Rattle.standby_node.specs.declared.standby.Standby.{Standby}
 use Rattle.standby_node.specs.FeedLines.{IsBadLine, IsLegalLine, IsNext, TakesLine}
-use Rattle.standby_node.specs.Standing.{Hold, IsInHand}
+use Rattle.standby_node.specs.Standing.{Hold, IsInHand, shards_in}
+use Rattle.standby_node.specs.Streams.{TakesLines, line_count}
 
 -- whether the store failed
 abbrev pub has_failed : Result (Unit {0}) TakeFault → Bool
@@ -75,3 +79,12 @@ module _ {S : Type 0} {G : Ghosts S} where
       (after ≡ histories) × (its : HasNext issuer histories line shard)
       × Hold issuer (λ other. in_doubt other || (other == shard)) new after
       × IsInHand in_doubt shard its.history its.entry new
+
+  -- the shards hold what these whole lines make of the opening histories, and the standby has none of a line behind them
+  pub record HasTakenLines (issuer : Setup) (in_doubt : ℕ → Bool) (opening : List (List Entry)) (lines : List (List ℕ))
+      (node : Standby S G) (histories : List (List Entry)) : Type 0 where
+    pub whole : AllByRecursion IsUnbroken lines
+    pub taken : TakesLines issuer opening lines histories
+    pub hold : Hold issuer in_doubt (shards_in node) histories
+    pub none : node.line.items ≡ []
+    pub counted : node.lines ≡ line_count (length lines)

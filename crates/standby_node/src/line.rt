@@ -4,16 +4,22 @@ ghost use Rattle.issuer_base.specs.declared.entry.Entry.{Entry};
 ghost use Rattle.host_loading.specs.Hosts.{AreShards};
 ghost use Rattle.shard_book.specs.Calls.{KeepsCall};
 ghost use Rattle.shard_book.specs.Shards.{IsUnder};
-ghost use Rattle.shard_book.specs.Taking.{IsReplicaOf, LeavesReplicas};
+ghost use Rattle.shard_book.specs.Taking.{IsReadRecord, IsReplicaOf, LeavesReplicas};
+ghost use Rattle.journal_rec.specs.Record.{IsLineOf};
+ghost use Rattle.line_reader.specs.Lines.{ended};
 ghost use Rattle.feed_text.specs.declared.limits.TheConstants.{MOST_FEED_BYTES};
 ghost use Rattle.standby_node.specs.OneLine.{Does, TakesAt, has_failed};
+ghost use Rattle.standby_node.specs.ReadLines.{IsFormed, IsReadAs, IsReady};
 ghost use Rattle.standby_node.specs.Standing.{Hold, KeepsShards, LeavesBetween};
 
-use feed_text::read_head;
-use issuer_base::Store;
+use arrayvec::ArrayVec;
+use feed_text::{MOST_FEED_BYTES, read_head};
+use issuer_base::{Entry, Refusal, Store};
 use issuer_setup::Issuer;
 use journal_rec::read_entry;
-use shard_book::{Shard, TakeFault};
+use line_checks::LookedUp;
+use line_reader::NEWLINE;
+use shard_book::{Shard, TakeFault, look_up_record};
 
 /// Why a standby stops.
 #[derive(Clone, Copy, PartialEq, Eq, Debug)]
@@ -26,6 +32,30 @@ pub enum FeedFault {
     StoreFault(u8),
 }
 
+/// A whole line of a feed, read ahead of its turn.
+#[derive(Drop)]
+pub(crate) enum ReadLine {
+    /// It is bad, whatever records the shards have.
+    Bad,
+
+    /// Its shard had a record with its index when it was read.
+    Behind,
+
+    /// It is for this shard, with this index. What follows is the line of no record.
+    NoRecord {
+        shard: u8,
+        place: u64,
+    },
+
+    /// It is for this shard, with this index. What follows is the line of this record, whose text this is.
+    Record {
+        shard: u8,
+        place: u64,
+        entry: Entry,
+        text: ArrayVec<u8, MOST_FEED_BYTES>,
+    },
+}
+
 /// Takes the whole line with this number, without its newline, into the shards of an issuer.
 pub(crate) fn take_line<S: Store>(
     shards: &mut Vec<Shard<S>>,
@@ -33,8 +63,7 @@ pub(crate) fn take_line<S: Store>(
     line: &[u8],
     number: u64,
 ) -> Result<(), FeedFault>
-    requires shards { AreShards issuer.now shards.old.items }
-    requires short { length line.now < MOST_FEED_BYTES }
+    requires { AreShards issuer.now shards.old.items }
     ensures does { (in_doubt : ℕ → Bool) (histories : List (List Entry))
         → Hold issuer.now in_doubt shards.old.items histories
         → (after : List (List Entry))
@@ -42,46 +71,134 @@ pub(crate) fn take_line<S: Store>(
         × LeavesBetween issuer.now histories after shards.old.items shards.new.items }
     ensures kept { KeepsShards issuer.now shards.old.items result shards.new.items }
 {
+    let read = read_line(shards, issuer, line);
+    let found = look_up_line(issuer, &read);
+    take_read(shards, issuer, &read, &found, number)
+}
+
+/// Reads a whole line, without its newline, for the shards of an issuer.
+pub(crate) fn read_line<S: Store>(shards: &Vec<Shard<S>>, issuer: &Issuer, line: &[u8]) -> ReadLine
+    requires { AreShards issuer.now shards.now.items }
+    ensures read { (in_doubt : ℕ → Bool) (histories : List (List Entry))
+        → Hold issuer.now in_doubt shards.now.items histories → IsReadAs histories line.now result }
+    ensures form { IsFormed issuer.now result }
+{
+    if line.len() >= MOST_FEED_BYTES {
+        return ReadLine::Bad;
+    }
     let Some(head) = read_head(line) else {
-        return Err(FeedFault::BadFeed(number));
+        return ReadLine::Bad;
     };
     if head.shard >= u64::from(issuer.shards()) {
-        return Err(FeedFault::BadFeed(number));
+        return ReadLine::Bad;
     }
     let shard = head.shard as u8;
-    match take_next(
-        &mut shards[usize::from(shard)],
-        issuer,
-        head.place,
-        head.rest,
-    ) {
-        Ok(()) => Ok(()),
-        Err(TakeFault::NotLegal) => Err(FeedFault::BadFeed(number)),
-        Err(TakeFault::StoreFault) => Err(FeedFault::StoreFault(shard)),
+    if head.place < shards[usize::from(shard)].places() {
+        return ReadLine::Behind;
+    }
+    let Ok(entry) = read_entry(head.rest) else {
+        return ReadLine::NoRecord {
+            shard,
+            place: head.place,
+        };
+    };
+    ReadLine::Record {
+        shard,
+        place: head.place,
+        entry,
+        text: ended(head.rest),
     }
 }
 
-/// Takes a record into a shard if this is its next index. Any other index is passed over, and the text isn't read.
-/// `NotLegal` means that the text isn't the line of a record that is legal there.
+/// A line with its newline.
+fn ended(line: &[u8]) -> ArrayVec<u8, MOST_FEED_BYTES>
+    requires { length line.now < MOST_FEED_BYTES }
+    ensures { result.items ≡ ended line.now }
+{
+    let mut text = ArrayVec::new();
+    text.try_extend_from_slice(line).unwrap();
+    text.push(NEWLINE);
+    text
+}
+
+/// What is looked up for the record of a line; a refusal, if it has none.
+pub(crate) fn look_up_line(issuer: &Issuer, line: &ReadLine) -> Result<LookedUp, Refusal>
+    requires { IsFormed issuer.now line.now }
+    ensures { IsReady issuer.now line.now result }
+{
+    match line {
+        ReadLine::Record { entry, .. } => look_up_record(issuer, entry),
+        _ => Err(Refusal::UnknownCard),
+    }
+}
+
+/// Takes the line with this number, which was read ahead, into the shards of an issuer.
+pub(crate) fn take_read<S: Store>(
+    shards: &mut Vec<Shard<S>>,
+    issuer: &Issuer,
+    line: &ReadLine,
+    found: &Result<LookedUp, Refusal>,
+    number: u64,
+) -> Result<(), FeedFault>
+    requires shards { AreShards issuer.now shards.old.items }
+    requires line { IsReady issuer.now line.now found.now }
+    ensures does { (in_doubt : ℕ → Bool) (histories : List (List Entry)) (text : List ℕ)
+        → Hold issuer.now in_doubt shards.old.items histories → IsReadAs histories text line.now
+        → (after : List (List Entry))
+        × Does issuer.now in_doubt histories text number result shards.new.items after
+        × LeavesBetween issuer.now histories after shards.old.items shards.new.items }
+    ensures kept { KeepsShards issuer.now shards.old.items result shards.new.items }
+{
+    match line {
+        ReadLine::Bad => Err(FeedFault::BadFeed(number)),
+        ReadLine::Behind => Ok(()),
+        ReadLine::NoRecord { shard, place } => {
+            if *place != shards[usize::from(*shard)].places() {
+                return Ok(());
+            }
+            Err(FeedFault::BadFeed(number))
+        }
+        ReadLine::Record {
+            shard,
+            place,
+            entry,
+            text,
+        } => match take_next(
+            &mut shards[usize::from(*shard)],
+            issuer,
+            *place,
+            entry,
+            text.as_slice(),
+            found,
+        ) {
+            Ok(()) => Ok(()),
+            Err(TakeFault::NotLegal) => Err(FeedFault::BadFeed(number)),
+            Err(TakeFault::StoreFault) => Err(FeedFault::StoreFault(*shard)),
+        },
+    }
+}
+
+/// Takes a record into a shard if this is its next index. Any other index is passed over. `NotLegal` means that the
+/// record isn't legal there.
 fn take_next<S: Store>(
     shard: &mut Shard<S>,
     issuer: &Issuer,
     place: u64,
+    entry: &Entry,
     text: &[u8],
+    found: &Result<LookedUp, Refusal>,
 ) -> Result<(), TakeFault>
-    requires { IsUnder issuer.now shard.old }
-    ensures taken { (history : List Entry) → IsReplicaOf issuer.now shard.old history
-        → TakesAt issuer.now shard.old history place text.now result shard.new }
+    requires under { IsUnder issuer.now shard.old }
+    requires read { IsReadRecord issuer.now entry.now text.now found.now }
+    ensures taken { (history : List Entry) (line : List ℕ) → IsReplicaOf issuer.now shard.old history
+        → IsLineOf entry.now line → TakesAt issuer.now shard.old history place line result shard.new }
     ensures crash { LeavesReplicas issuer.now shard.old shard.new }
     ensures kept { KeepsCall issuer.now shard.old (has_failed result) shard.new }
 {
     if place != shard.places() {
         return Ok(());
     }
-    let Ok(entry) = read_entry(text) else {
-        return Err(TakeFault::NotLegal);
-    };
-    match shard.take(issuer, &entry) {
+    match shard.take_looked_up(issuer, entry, text, found) {
         Ok(_) => Ok(()),
         Err(fault) => Err(fault),
     }

@@ -1,14 +1,19 @@
 //! A standby, which is fed with a stream in pieces of any size.
-ghost use Rattle.std.specs.Prelude.{◌≡◌, ℕ, ◌<◌, Bool, true, IsTrue, IsOk, List, [], ◌++◌, length, min, slice_get, Some, take};
+ghost use Rattle.std.specs.Prelude.{◌≡◌, ℕ, ◌+◌, ◌<◌, ◌≤◌, Bool, true, IsTrue, IsOk, List, [], ◌∷◌, ◌++◌, length, min, slice_get, Some, take};
+ghost use Rattle.std.specs.List.{flat_map};
 ghost use Rattle.issuer_base.specs.declared.entry.Entry.{Entry};
 ghost use Rattle.issuer_setup.specs.IssuerSetup.{Setup};
 ghost use Rattle.host_loading.specs.Hosts.{AreShards};
 ghost use Rattle.feed_text.specs.declared.limits.TheConstants.{MOST_FEED_BYTES};
-ghost use Rattle.standby_node.specs.OneLine.{Does};
+ghost use Rattle.standby_node.specs.OneLine.{Does, HasTakenLines};
+ghost use Rattle.line_checks.specs.declared.lines_ahead.TheConstants.{MOST_AHEAD};
+ghost use Rattle.line_reader.specs.Lines.{IsUnbroken, ended};
+ghost use Rattle.standby_node.specs.ReadLines.{AreAhead, AreReady, IsNoneAhead};
 ghost use Rattle.standby_node.specs.Standing.{Feeds, HasTaken, Hold, KeepsNode, KeepsShards, LeavesBetween, live_in, shards_in};
 ghost use Rattle.standby_node.specs.Streams.{line_number};
 
-use crate::line::{FeedFault, take_line};
+use crate::feed_lines::FeedLines;
+use crate::line::{FeedFault, read_line, take_line, take_read};
 use arrayvec::ArrayVec;
 use feed_text::MOST_FEED_BYTES;
 use issuer_base::Store;
@@ -66,9 +71,51 @@ impl<S: Store> Standby<S> {
         // It stays live unless there is a fault, and a store's fault counter increases exactly if the fault names it.
         ensures kept { KeepsNode issuer.now self.old result self.new }
     {
-        let fed = self.take_lines(issuer, piece);
+        let fed = self.take_piece(issuer, piece);
         self.live = fed.is_ok();
         fed
+    }
+
+    /// Reads a whole line of the stream ahead of its turn, without its newline.
+    pub fn read_ahead(&self, issuer: &Issuer, line: &[u8], ahead: &mut FeedLines)
+        requires shards { AreShards issuer.now (shards_in self.now) }
+        requires room { AreReady issuer.now ahead.old × (length ahead.old.lines.items < MOST_AHEAD) }
+        requires line { IsUnbroken line.now }
+        ensures read { (in_doubt : ℕ → Bool) (histories : List (List Entry)) (lines : List (List ℕ))
+            → Hold issuer.now in_doubt (shards_in self.now) histories → AreAhead histories lines ahead.old
+            → AreAhead histories (lines ++ line.now ∷ []) ahead.new }
+        ensures ready { AreReady issuer.now ahead.new }
+        ensures count { length ahead.new.lines.items ≡ length ahead.old.lines.items + 1 }
+    {
+        ahead.add(issuer, read_line(&self.shards, issuer, line));
+    }
+
+    /// Takes the lines that were read ahead, in their order, behind the whole lines of the stream. Each record is durable
+    /// before the next line is taken. A line without a newline is dropped. The cryptograms of the requests are checked
+    /// together.
+    ///
+    /// After a fault the standby isn't live.
+    pub fn take_lines(&mut self, issuer: &Issuer, ahead: &mut FeedLines) -> Result<(), FeedFault>
+        requires live { IsTrue (live_in self.old) }
+        requires shards { AreShards issuer.now (shards_in self.old) }
+        requires ahead { AreReady issuer.now ahead.old × (length ahead.old.lines.items ≤ MOST_AHEAD) }
+
+        // As for `feed`, where the stream goes on with these lines.
+        ensures fed { (in_doubt : ℕ → Bool) (opening histories : List (List Entry)) (stream : List ℕ)
+            (lines : List (List ℕ)) → (was : HasTaken issuer.now in_doubt opening stream self.old histories)
+            → AreAhead histories lines ahead.old
+            → (after : List (List Entry))
+            × Feeds issuer.now in_doubt opening (flat_map ended (was.taken.lines ++ lines)) result self.new after
+            × LeavesBetween issuer.now histories after (shards_in self.old) (shards_in self.new) }
+        ensures kept { KeepsNode issuer.now self.old result self.new }
+        ensures none { IsNoneAhead ahead.new }
+    {
+        self.line.clear();
+        ahead.check(issuer);
+        let taken = self.take_ahead(issuer, ahead);
+        ahead.clear();
+        self.live = taken.is_ok();
+        taken
     }
 
     /// Whether it can be fed: no piece had a fault.
@@ -101,8 +148,30 @@ impl<S: Store> Standby<S> {
         shards
     }
 
+    /// Takes the lines that were read ahead.
+    fn take_ahead(&mut self, issuer: &Issuer, ahead: &FeedLines) -> Result<(), FeedFault>
+        requires shards { AreShards issuer.now (shards_in self.old) }
+        requires ahead { AreReady issuer.now ahead.now }
+        ensures fed { (in_doubt : ℕ → Bool) (opening histories : List (List Entry)) (before lines : List (List ℕ))
+            → HasTakenLines issuer.now in_doubt opening before self.old histories → AreAhead histories lines ahead.now
+            → (after : List (List Entry))
+            × Feeds issuer.now in_doubt opening (flat_map ended (before ++ lines)) result self.new after
+            × LeavesBetween issuer.now histories after (shards_in self.old) (shards_in self.new) }
+        ensures kept { KeepsShards issuer.now (shards_in self.old) result (shards_in self.new) }
+    {
+        let found = ahead.found();
+        for (i, line) in ahead.lines().iter().enumerate() {
+            self.lines = self.lines.saturating_add(1);
+            match take_read(&mut self.shards, issuer, line, &found[i], self.lines) {
+                Ok(()) => {}
+                Err(fault) => return Err(fault),
+            }
+        }
+        Ok(())
+    }
+
     /// Takes the lines that a piece ends, and keeps the bytes after them.
-    fn take_lines(&mut self, issuer: &Issuer, piece: &[u8]) -> Result<(), FeedFault>
+    fn take_piece(&mut self, issuer: &Issuer, piece: &[u8]) -> Result<(), FeedFault>
         requires { AreShards issuer.now (shards_in self.old) }
         ensures fed { (in_doubt : ℕ → Bool) (opening histories : List (List Entry)) (stream : List ℕ)
             → HasTaken issuer.now in_doubt opening stream self.old histories

@@ -1,22 +1,24 @@
--- The text at the shard's next index is read and taken; at another index nothing is.
-use Rattle.std.proofs.Common.{[], ◌∙◌, ap, refl, Err}
+-- A record at the shard's next index is taken; at another index nothing is.
+use Rattle.std.proofs.Common.{[], ◌∙◌, ap, Err}
 use Rattle.shard_book.specs.Grounds.{grounds_of}
 use Rattle.shard_book.proofs.ShardSteps.{crash-no_call}
-use Rattle.standby_node.proofs.Taken.{next-failed}
+use Rattle.standby_node.proofs.Taken.{next-failed, next-taken, one-entry}
 use Rattle.standby_node.proofs.line.take_next.Goals as goal
 
 pub returns-then-place-places-clause-crash : goal.returns-then-place-places-clause-crash
 returns-then-place-places-clause-crash g c history replica =
     crash-no_call (grounds_of c.args.issuer.now) _ c.args.shard.now.journal history replica.journal_holds
 
-pub returns-in_default-clause-crash : goal.returns-in_default-clause-crash
-returns-in_default-clause-crash g c history replica =
-    crash-no_call (grounds_of c.args.issuer.now) _ c.args.shard.now.journal history replica.journal_holds
+pub returns-in-Ok-clause-taken : goal.returns-in-Ok-clause-taken
+returns-in-Ok-clause-taken g c history line replica line_is =
+    next-taken c.args.issuer.now c.args.shard.now c.take_looked_up.new.self history c.args.place line
+    (c.if-place-places.false ∙ c.places.ensures.places ∙ replica.journal_holds.holds.count_is)
+    c.args.entry.now line_is (λ other other_is. one-entry c.args.entry.now other line line_is other_is) _ (c.in-Ok.ensures.taken history replica)
 
 pub returns-in-Err-clause-taken : goal.returns-in-Err-clause-taken
-returns-in-Err-clause-taken g c history replica =
-    next-failed c.args.issuer.now c.args.shard.now c.take.new.self history c.args.place c.args.text.now
+returns-in-Err-clause-taken g c history line replica line_is =
+    next-failed c.args.issuer.now c.args.shard.now c.take_looked_up.new.self history c.args.place line
     (c.if-place-places.false ∙ c.places.ensures.places ∙ replica.journal_holds.holds.count_is)
-    c.in-Ok.entry ((c.in-Ok.ensures c.in-Ok.entry).0 refl) (λ other line_is. cc ((c.in-Ok.ensures other).1 line_is))
+    c.args.entry.now line_is (λ other other_is. one-entry c.args.entry.now other line line_is other_is)
     c.in-Err.fault (c.in-Err.ensures.taken history replica) (λ same. c.in-Err.ensures.kept.unchanged (ap Err same))
     (c.in-Err.ensures.tail history [])

@@ -2,7 +2,7 @@
 use Rattle.std.proofs.Common.{refl, take, Ok, Err}
 use Rattle.standby_node.proofs.Fed.{fed-end, fed-more, fed-nothing, fed-stopped, keeps-line}
 use Rattle.standby_node.proofs.Pieces.{newline-found, newline-none}
-use Rattle.standby_node.proofs.standby.Standby.take_lines.Goals as goal
+use Rattle.standby_node.proofs.standby.Standby.take_piece.Goals as goal
 
 pub lines-init : goal.lines-init
 lines-init g c = fed-nothing c.args.issuer.now c.args.self.now c.args.piece.now c.requires

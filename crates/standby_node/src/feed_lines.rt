@@ -1,0 +1,82 @@
+//! Whole lines of a feed that are read ahead of their turns.
+ghost use Rattle.std.specs.Prelude.{◌≡◌, ◌↔◌, ◌<◌, ◌≤◌, [], ◌∷◌, ◌++◌, length, vec_capacity, IfOk, IsTrue};
+ghost use Rattle.line_checks.specs.declared.lines_ahead.TheConstants.{MOST_AHEAD};
+
+use crate::line::{ReadLine, look_up_line};
+use issuer_base::{NoMemory, Refusal};
+use issuer_setup::Issuer;
+use line_checks::{LookedUp, MOST_AHEAD, check_in_lanes};
+use std::alloc::Global;
+
+/// Whole lines of a feed that were read ahead of their turns, at most [`MOST_AHEAD`], and what was looked up for each.
+#[derive(Drop)]
+pub struct FeedLines {
+    lines: Vec<ReadLine>,
+    found: Vec<Result<LookedUp, Refusal>>,
+    ghost room: { MOST_AHEAD ≤ vec_capacity lines },
+    ghost room_found: { MOST_AHEAD ≤ vec_capacity found },
+}
+
+impl FeedLines {
+    ghost use Rattle.standby_node.specs.ReadLines.{AreReady, IsFormed, IsNoneAhead};
+
+    /// No lines. Only this call allocates.
+    pub fn new(alloc: Global) -> Result<FeedLines, NoMemory>
+        ensures { IfOk result IsNoneAhead }
+    {
+        let lines = Vec::with_capacity(alloc, MOST_AHEAD)?;
+        let found = Vec::with_capacity(alloc, MOST_AHEAD)?;
+        Ok(FeedLines { lines, found })
+    }
+
+    /// Whether there are as many lines as there may be.
+    pub fn is_full(&self) -> bool
+        ensures { IsTrue result ↔ (MOST_AHEAD ≤ length self.now.lines.items) }
+    {
+        self.lines.len() >= MOST_AHEAD
+    }
+
+    /// The lines, in their order.
+    pub(crate) fn lines(&self) -> &[ReadLine]
+        ensures { result.now ≡ self.now.lines.items }
+    {
+        self.lines.as_slice()
+    }
+
+    /// What was looked up for each.
+    pub(crate) fn found(&self) -> &[Result<LookedUp, Refusal>]
+        ensures { result.now ≡ self.now.found.items }
+    {
+        self.found.as_slice()
+    }
+
+    /// Adds a line that was read, and looks its record up.
+    pub(crate) fn add(&mut self, issuer: &Issuer, line: ReadLine)
+        requires ready { AreReady issuer.now self.old }
+        requires room { length self.old.lines.items < MOST_AHEAD }
+        requires form { IsFormed issuer.now line }
+        ensures added { self.new.lines.items ≡ self.old.lines.items ++ line ∷ [] }
+        ensures ready { AreReady issuer.now self.new }
+    {
+        self.found.push_reserved(look_up_line(issuer, &line));
+        self.lines.push_reserved(line);
+    }
+
+    /// Checks the cryptograms of the requests together.
+    pub(crate) fn check(&mut self, issuer: &Issuer)
+        requires ready { AreReady issuer.now self.old }
+        requires few { length self.old.lines.items ≤ MOST_AHEAD }
+        ensures ready { AreReady issuer.now self.new }
+        ensures lines { self.new.lines.items ≡ self.old.lines.items }
+    {
+        check_in_lanes(issuer, self.found.as_mut_slice());
+    }
+
+    /// Removes all.
+    pub(crate) fn clear(&mut self)
+        ensures { IsNoneAhead self.new }
+    {
+        self.lines.clear();
+        self.found.clear();
+    }
+}
