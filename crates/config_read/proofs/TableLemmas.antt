@@ -1,7 +1,8 @@
 -- The rows of the decision table: each one's card status update states its decision, so only the last row can be at
--- fault.
+-- fault, and what a configuration states is a table.
 use Rattle.std.proofs.Common.{◌≡◌, ◌+◌, ◌<◌, ◌≤◌, if◌then◌else◌, true, false, List, [], ◌∷◌, length, map, Option, Some, None, Ok, Err, codes, refl}
-use Rattle.std.proofs.Common.{ap, ◌∙◌, arith}
+use Rattle.std.proofs.Common.{ap, sym, subst, ◌∙◌, ◌&&◌, nat_le, ℕ, inl, inr, IsTrue, Result, arith}
+use Rattle.std.proofs.lemmas.Bool.{and_from, cases_Bool, cond-false, cond-true}
 use Rattle.std.proofs.lemmas.List.{length-map}
 use Rattle.std.specs.List.{list_all}
 use Rattle.std.specs.Option.{IfSome}
@@ -10,11 +11,16 @@ use Rattle.serde_json.specs.View.{view}
 use Rattle.serde_json.specs.declared.value.Value.{Value}
 use Rattle.issuer_base.specs.declared.limits.TheConstants.{MAX_TABLE_ROWS}
 use Rattle.decision_table.specs.declared.row.TableRow.{TableRow}
+use Rattle.issuer_setup.specs.IssuerSetup.{Setup}
 use Rattle.decision_table.specs.Tables.{tells_approval, ends_in_all, is_table, table_from}
-use Rattle.config_read.specs.declared.fault.ConfigPart.TheVariants.{Table}
+use Rattle.config_read.specs.declared.fault.ConfigPart.TheVariants.{Table, Whole}
+use Rattle.config_read.specs.declared.fault.ConfigFault.{ConfigFault}
 use Rattle.config_read.specs.declared.fault.ConfigFault.TheVariants.{At}
+use Rattle.config_read.specs.declared.config.TheConstants.{MAX_CONFIG_BYTES}
+use Rattle.config_read.specs.Configuration.{configured, object_in, setup_in, where_json}
+use Rattle.config_read.specs.Json.{json_of}
 use Rattle.config_read.specs.Elements.{row_in}
-use Rattle.config_read.specs.Parts.{◌>>=◌, front, in_front, no_conflict, part_elements, said_by, table_in, where_last_takes_all}
+use Rattle.config_read.specs.Parts.{◌>>=◌, cards_in, front, in_front, keys_in, no_conflict, part_elements, said_by, shards_in, silent_at, table_in, unless_broken, where_last_takes_all}
 use Rattle.config_read.proofs.FrontLemmas.{length-front-le}
 use Rattle.config_read.proofs.PartsLemmas.{said_by-broken, said_by-whole, silent-place, whole-place}
 use Rattle.config_read.proofs.RowPartsLemmas.{row_in-tells}
@@ -86,3 +92,67 @@ module _ (value : Data) (elements : List Value) (rows : List TableRow)
         | true ↦ λ some. cc some
         | false ↦ λ none. ap (λ count. Err (At Table count)) (rows-count all)
       ] it
+
+-- ---- what is stated is a table
+
+abbrev rows_of : Result Setup ConfigFault → List TableRow
+rows_of (Ok issuer) = issuer.table
+rows_of (Err fault) = []
+
+front-table : (found rows : List TableRow) → list_all tells_approval found ≡ true → where_last_takes_all found ≡ Ok rows → IsTrue (is_table rows)
+unfolding is_table
+front-table found rows told is =
+    elim (cases_Bool (ends_in_all found)) [
+      | inl ends ↦
+          let same : Ok found ≡ Ok rows = sym (cond-true (ends_in_all found) _ _ ends) ∙ is in
+          let rows_are : found ≡ rows = cc in
+          subst (λ (rows : List TableRow). IsTrue (list_all tells_approval rows && ends_in_all rows)) rows_are (and_from _ _ told ends)
+      | inr more ↦ absurd (let no : Err (At Table (length found)) ≡ Ok rows = sym (cond-false (ends_in_all found) _ _ more) ∙ is in cc)
+    ]
+
+elements-table : (elements : List Data) (rows : List TableRow) → (said_by Table row_in no_conflict elements >>= where_last_takes_all) ≡ Ok rows
+    → IsTrue (is_table rows)
+elements-table elements rows =
+    elim (silent_at row_in elements) as
+    (λ silent. (unless_broken Table silent (front row_in elements) >>= where_last_takes_all) ≡ Ok rows → IsTrue (is_table rows)) [
+      | None ↦ front-table (front row_in elements) rows (front-told elements)
+      | Some place ↦ λ is. absurd (cc)
+    ]
+
+table_in-table : (value : Data) (rows : List TableRow) → table_in value ≡ Ok rows → IsTrue (is_table rows)
+table_in-table value rows =
+    elim (part_elements Table (codes "table") MAX_TABLE_ROWS value) as
+    (λ these. (these >>= said_by Table row_in no_conflict >>= where_last_takes_all) ≡ Ok rows → IsTrue (is_table rows)) [
+      | Ok elements ↦ elements-table elements rows
+      | Err fault ↦ λ is. absurd (cc)
+    ]
+
+-- the first step gave a value, and the second is the result
+first-gave : {A B : Type 0} (first : Result A ConfigFault) (next : A → Result B ConfigFault) (result : B) → (first >>= next) ≡ Ok result
+    → (value : A) × (first ≡ Ok value) × (next value ≡ Ok result)
+first-gave (Ok value) next result is = (value, refl, is)
+first-gave (Err fault) next result is = absurd (cc)
+
+setup-table : (value : Data) (issuer : Setup) → setup_in value ≡ Ok issuer → IsTrue (is_table issuer.table)
+setup-table value issuer is =
+    let object = first-gave (object_in value) _ issuer is in
+    let shards = first-gave (shards_in object.0) _ issuer object.2 in
+    let keys = first-gave (keys_in object.0) _ issuer shards.2 in
+    let cards = first-gave (cards_in object.0) _ issuer keys.2 in
+    let table = first-gave (table_in object.0) _ issuer cards.2 in
+    let rows : table.0 ≡ issuer.table = ap (λ (said : Result Setup ConfigFault). rows_of said) table.2 in
+    subst (λ (rows : List TableRow). IsTrue (is_table rows)) rows (table_in-table object.0 table.0 table.1)
+
+json-table : (told : Option Data) (issuer : Setup) → where_json told ≡ Ok issuer → IsTrue (is_table issuer.table)
+json-table None issuer is = absurd (cc)
+json-table (Some value) issuer is = setup-table value issuer is
+
+-- the rows of an issuer that a configuration states
+pub configured-table : (content : List ℕ) (issuer : Setup) → configured content ≡ Ok issuer → IsTrue (is_table issuer.table)
+unfolding configured
+configured-table content issuer =
+    elim (nat_le (length content) MAX_CONFIG_BYTES) as
+    (λ within. (if within then where_json (json_of content) else Err (At Whole 0)) ≡ Ok issuer → IsTrue (is_table issuer.table)) [
+      | true ↦ json-table (json_of content) issuer
+      | false ↦ λ is. absurd (cc)
+    ]

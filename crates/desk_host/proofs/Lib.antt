@@ -13,3 +13,5 @@ pub mod ShowSteps
 pub mod Joined
 pub mod OwnRecords
 pub mod OneAnswer
+pub mod AnyTable
+pub mod RowApproves

@@ -64,11 +64,11 @@ claimed-told shard replies before request (Refused StoreFault) after fine turn =
 claimed-told shard replies before request _ after fine turn = absurd turn
 
 module _ (decisions : List Decision) (request : Request) where
-  unused-used : (decision : Decision) → IsUnused decisions request → IsUsed decisions request decision → ⊥
+  pub unused-used : (decision : Decision) → IsUnused decisions request → IsUsed decisions request decision → ⊥
   unused-used decision unused used =
       All-contains (λ (d : Decision). d.request.atc ≢ request.atc) decisions decision unused.unrecorded used.recorded used.same_counter
 
-  old-in_window : (top : ℕ) → IsTooOld decisions request top → (IsBelow (greatest_atc decisions) request.atc → ⊥) → ⊥
+  pub old-in_window : (top : ℕ) → IsTooOld decisions request top → (IsBelow (greatest_atc decisions) request.atc → ⊥) → ⊥
   old-in_window top old within = within (subst (λ greatest. IsBelow greatest request.atc) (sym old.greatest_is) old.below)
 
   module _ (once : AreOnce decisions) where

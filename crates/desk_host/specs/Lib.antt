@@ -10,3 +10,4 @@ pub mod Loading
 pub mod Shown
 pub mod CardText
 pub mod Isolation
+pub mod Approvals
