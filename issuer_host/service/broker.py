@@ -24,6 +24,8 @@ DELIVERY_LIMIT = 8
 # A reply queue that nobody reads for an hour is removed.
 REPLY_EXPIRES = 3_600_000
 HEARTBEAT = 10
+# A broker whose machine no longer takes what is sent, or answers no probe of the network, is gone after 5 s.
+SILENCE = {"TCP_USER_TIMEOUT": 5_000, "TCP_KEEPIDLE": 2, "TCP_KEEPINTVL": 1, "TCP_KEEPCNT": 3}
 # Bytes that the broker should take in a message (max_message_size of its configuration).
 MAX_MESSAGE = 65_536
 
@@ -74,6 +76,7 @@ def parameters_of(path: Optional[str]) -> Any:
     found.socket_timeout = 2
     found.stack_timeout = 3
     found.connection_attempts = 1
+    found.tcp_options = SILENCE
     return found
 
 

@@ -1,7 +1,7 @@
 """Kills, cuts and stops machines while requests are answered, and holds answers, streams and journals together.
 
-usage: deploy/chaos --machines [--short] [--requests N] [--seed S] [--tick SECONDS] [--program PATH] [--keep FOLDER]
-                               [--loud]
+usage: deploy/chaos --machines [--short] [--requests N] [--seed S] [--tick SECONDS] [--events NAME,..]
+                               [--program PATH] [--keep FOLDER] [--loud]
 
 It makes three machines as namespaces of the network, with a node of a RabbitMQ cluster and a node of eight partitions
 on each, and asks N requests (20,000; in the short form 1,000). About a tenth are asked again, a hundredth again with
@@ -15,6 +15,8 @@ to a machine that serves a partition:
 - its node, a host, its broker, or the broker that leads a stream is killed; its node is ended
 - the disk of its journals is full; its clock is set
 - a deposed bridge writes a barrier without a greater number, and records that come too late
+
+--events has these happen alone, in their order: `events.py` has their names.
 
 At the end:
 
@@ -38,7 +40,7 @@ import sys
 import tempfile
 import threading
 import time
-from collections.abc import Iterator, Mapping, Sequence
+from collections.abc import Mapping, Sequence
 from typing import TYPE_CHECKING, NamedTuple, Optional
 
 from issuer_host.answers import reply_of
@@ -76,6 +78,7 @@ class Options(NamedTuple):
     requests: int
     seed: int
     tick: int
+    events: list[str]
     program: Optional[str]
     keep: Optional[str]
     loud: bool
@@ -103,6 +106,7 @@ def options_of(words: Sequence[str]) -> Options:
     parser.add_argument("--requests", type=int, default=0)
     parser.add_argument("--seed", type=int, default=1)
     parser.add_argument("--tick", type=int, default=TICK_SECONDS)
+    parser.add_argument("--events", type=lambda names: names.split(","), default=[])
     parser.add_argument("--program", type=lambda path: os.path.abspath(path))
     parser.add_argument("--keep")
     parser.add_argument("--loud", action="store_true")
@@ -114,7 +118,9 @@ def events_of(options: Options, left_out: Mapping[str, str], dice: random.Random
     """Returns what happens in each round: in the long form each event once at least."""
     from issuer_host.replication.trials.events import EVENTS
 
-    if options.short:
+    if options.events:
+        found = options.events
+    elif options.short:
         found = list(SHORT_EVENTS)
     else:
         rounds = max(options.requests // REQUESTS_OF_ROUND, len(EVENTS))
@@ -139,13 +145,9 @@ def rounds_of(messages: Sequence[str], events: Sequence[str], dice: random.Rando
     return [*found, Round("", changed)]
 
 
-def paced(messages: Sequence[str]) -> Iterator[str]:
-    """The messages, at a rate by which they last for as long as what happens meanwhile."""
-    began = time.monotonic()
-    rate = min(RATE, len(messages) / ROUND_SECONDS)
-    for number, message in enumerate(messages):
-        time.sleep(max(0.0, began + number / rate - time.monotonic()))
-        yield message
+def rate_of(messages: Sequence[str]) -> float:
+    """Returns the rate by which messages last for as long as what happens meanwhile."""
+    return min(RATE, len(messages) / ROUND_SECONDS)
 
 
 class Silences:
@@ -167,7 +169,7 @@ class Silences:
 
 def ask_in_rounds(machines: "Machines", rounds: Sequence[Round], dice: random.Random) -> Asked:
     """Asks all messages, with an event in each round."""
-    from issuer_host.replication.trials.asker import ClusterAsker
+    from issuer_host.replication.trials.asker import PacedAsker
     from issuer_host.replication.trials.events import happen
     from issuer_host.service.asking import Question
 
@@ -180,13 +182,13 @@ def ask_in_rounds(machines: "Machines", rounds: Sequence[Round], dice: random.Ra
         silences.answered(question.partition, question.began, time.monotonic())
 
     files = machines.publisher_files()
-    with ClusterAsker(machines.partitions, files, seconds=ANSWER_SECONDS, on_answer=answered) as asker:
+    with PacedAsker(machines.partitions, files, ANSWER_SECONDS, answered) as asker:
         for one in rounds:
             silences.begin()
             happening = threading.Timer(dice.uniform(0.5, 3.0), happen, (machines, one.event, dice))
             if one.event:
                 happening.start()
-            for _ in asker.ask_all(paced(one.messages)):
+            for _ in asker.ask_paced(one.messages, rate_of(one.messages)):
                 pass
             if one.event:
                 happening.join()
