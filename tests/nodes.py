@@ -81,6 +81,17 @@ class Machine:
             json.dump({**found, "table": with_account_row(found["table"])}, text)
         return config
 
+    @property
+    def program(self) -> str:
+        return os.path.join(self.room, "program")
+
+    def put_program(self, *words: str) -> None:
+        """Puts a program of this machine's own in place, which does what the words say."""
+        new = f"{self.program}.new"
+        with open(os.open(new, os.O_CREAT | os.O_WRONLY, 0o700), "w", encoding="utf-8") as text:
+            text.write(f"#!/bin/sh\n{' '.join(words)}\n")
+        os.replace(new, self.program)
+
     def journal(self, number: int) -> str:
         return partition_journal(self.room, number)
 

@@ -122,11 +122,15 @@ class JournalFiles:
     def locked_mark(self) -> RunMark:
         """Locks the mark of the journals, which says that no run has them open."""
         mark = lock_mark(self.journal)
-        if mark is not None and not any(is_locked(shard.path) for shard in self.shards):
-            return mark
-        if mark is not None:
-            mark.close()
-        raise Passing(f"another program has the journals {self.journal} open")
+        is_free = False
+        try:
+            is_free = mark is not None and not any(is_locked(shard.path) for shard in self.shards)
+        finally:
+            if mark is not None and not is_free:
+                mark.close()
+        if mark is None or not is_free:
+            raise Passing(f"another program has the journals {self.journal} open")
+        return mark
 
     def read_all(self) -> None:
         """Reads all journals to their ends, while no line is put to a host."""

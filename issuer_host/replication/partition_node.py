@@ -55,8 +55,9 @@ FIRST_DELAY, LAST_DELAY, STEADY_SECONDS = 0.5, 4.0, 60.0
 # Bytes of a reason that the broker is told.
 REASON = 200
 STOPPED = "stopped"
-# A disk that takes no record for so long lets another machine serve.
+# A disk that takes no record for so long lets another machine serve, and so do so many hosts in turn that end unloaded.
 FULL_SECONDS = 3.0
+FAILED_STARTS = 2
 LOCK = ".node"
 
 
@@ -110,6 +111,8 @@ class PartitionNode:
         # How many records counted at the last look, and when one counted last, or none waited to.
         self.counted = 0
         self.moved = time.monotonic()
+        # How many hosts in turn ended before they had loaded the journals.
+        self.failed_starts = 0
         # The host's answers of this turn of the loop.
         self.answers: "list[tuple[str, Action]]" = []
         # The position that is written next, whether one is being written, and the last one that was.
@@ -358,6 +361,11 @@ class PartitionNode:
         self.answers.clear()
         if self.bridge is not None:
             self.bridge.host_ended()
+        self.failed_starts = 0 if self.serving.hosting.is_loaded else self.failed_starts + 1
+        if self.failed_starts >= FAILED_STARTS:
+            self.failed_starts = 0
+            why = "no host loads the journals: another machine may serve the partition"
+            self.loop.add_callback_threadsafe(lambda: self.failed(Passing(why)))
 
     def pass_on(self, text: str, take: Action) -> None:
         """Takes a host's answer: those of one turn of the loop are written together."""

@@ -80,8 +80,15 @@ class Sealing:
         self.close()
         try:
             mark = lock_mark(self.name, creates=False)
-            if mark is not None:
-                mark.has_ended()
-                mark.close()
         except OSError as fault:
             tell(self.by, f"the end of the run isn't marked: {fault.strerror}")
+            return
+        if mark is None:
+            return
+        try:
+            mark.has_ended()
+        except OSError as fault:
+            tell(self.by, f"the end of the run isn't marked: {fault.strerror}")
+        finally:
+            # (while it is locked no other run begins)
+            mark.close()
