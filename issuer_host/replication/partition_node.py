@@ -113,8 +113,9 @@ class PartitionNode:
         self.moved = time.monotonic()
         # How many hosts in turn ended before they had loaded the journals.
         self.failed_starts = 0
-        # The host's answers of this turn of the loop.
+        # The host's answers whose records weren't written yet, and whether the loop comes to them.
         self.answers: "list[tuple[str, Action]]" = []
+        self.is_passing = False
         # The position that is written next, whether one is being written, and the last one that was.
         self.waiting: Optional[Position] = None
         self.is_keeping = False
@@ -241,6 +242,7 @@ class PartitionNode:
         self.bridge.read(message)
         if self.is_gap(message):
             self.write_again()
+        self.pass_soon()
         self.tell_state()
 
     def is_gap(self, message: Message) -> bool:
@@ -368,13 +370,22 @@ class PartitionNode:
             self.loop.add_callback_threadsafe(lambda: self.failed(Passing(why)))
 
     def pass_on(self, text: str, take: Action) -> None:
-        """Takes a host's answer: those of one turn of the loop are written together."""
-        if not self.answers:
-            self.loop.add_callback_threadsafe(lambda: self.guarded(self.pass_answers))
+        """Takes a host's answer."""
         self.answers.append((text, take))
+        self.pass_soon()
+
+    def pass_soon(self) -> None:
+        """Has the answers taken, unless records are on their way: those of a turn there and back are written together.
+
+        So a busy partition has few messages, and one that has one request in hand waits for nothing.
+        """
+        if self.answers and not self.is_passing and self.journals is not None and not self.journals.uncounted():
+            self.is_passing = True
+            self.loop.add_callback_threadsafe(lambda: self.guarded(self.pass_answers))
 
     def pass_answers(self) -> None:
         """Writes the records that the answers say are durable, and lets the answers wait for them."""
+        self.is_passing = False
         answers, self.answers = self.answers, []
         if self.journals is None or self.bridge is None:
             return

@@ -21,8 +21,8 @@ from issuer_host.service import broker
 from issuer_host.service.loops import Channel, Delivery, Loop, Properties
 from issuer_host.service.refusal import Refusal
 
-# Messages that the broker sends before the first one of them is acknowledged.
-PREFETCH = 50
+# Messages that the broker sends before the first one of them is acknowledged, and so many are acknowledged together.
+PREFETCH, TOGETHER = 50, 20
 # A channel that the broker closed is opened again after so long: a node that just started lacks its copy for a while.
 AGAIN_SECONDS = 0.5
 FIRST, LAST = "first", "last"
@@ -62,6 +62,8 @@ class Stream:
         self.is_open = False
         # What was delivered and isn't read: its tag and its offset beside it.
         self.unread: collections.deque[tuple[int, int, bytes]] = collections.deque()
+        # How many messages that were read aren't acknowledged.
+        self.unacknowledged = 0
         # Whether the message that was read last was found again.
         self.is_compared = False
 
@@ -125,6 +127,7 @@ class Stream:
     def open_reading(self) -> None:
         """Reads on, from the message that was read last."""
         self.unread.clear()
+        self.unacknowledged = 0
         self.is_compared = False
         start = FIRST if self.place.offset == BEFORE else self.place.offset
 
@@ -148,8 +151,7 @@ class Stream:
         """Takes the next message, if there is one. Refuses a stream that isn't the one that was read before."""
         while self.unread:
             tag, offset, body = self.unread.popleft()
-            if self.reading is not None and self.is_usable():
-                self.reading.basic_ack(tag)
+            self.acknowledge(tag)
             if offset == BEFORE:
                 raise Refusal(f"{self.name} has a message with headers, which no node writes: look who may write there")
             is_new = self.is_compared or self.place.offset == BEFORE
@@ -159,6 +161,12 @@ class Stream:
                 self.place = Place(offset, digest_of(body))
                 return body
         return None
+
+    def acknowledge(self, tag: int) -> None:
+        self.unacknowledged += 1
+        if self.unacknowledged >= TOGETHER and self.reading is not None and self.is_usable():
+            self.unacknowledged = 0
+            self.reading.basic_ack(tag, multiple=True)
 
     def compare(self, offset: int, body: bytes) -> None:
         """Finds the message again that was read last, or what a stream begins with."""

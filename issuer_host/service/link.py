@@ -29,6 +29,14 @@ class Confirm(Enum):
 OnConfirm = Callable[[Confirm], object]
 
 
+class WholeConnection(pika.SelectConnection):  # type: ignore[misc]
+    """A connection that sends a message's frames in one piece: three would be three packets."""
+
+    def _output_marshaled_frames(self, marshaled_frames: list[bytes]) -> None:
+        # (`pika` has no other place for it)
+        super()._output_marshaled_frames([b"".join(marshaled_frames)])
+
+
 class Link:
     """A connection. Each opening takes the steps of `steps_of` and calls `on_ready`; each loss calls `on_lost`."""
 
@@ -57,7 +65,7 @@ class Link:
         decode_no_headers()
 
     def open(self) -> None:
-        self.connection = pika.SelectConnection(
+        self.connection = WholeConnection(
             self.parameters,
             custom_ioloop=services_of(self.loop),
             on_open_callback=self.opened,
