@@ -41,8 +41,9 @@ from issuer_host.statuses import Status, meaning_of
 CAREFUL_START = os.path.join(HOME, "deploy", "issuer-run")
 # What has the node begin that the queue delivers to. It is no request: a publisher can't write it to where it counts.
 WAKE = b"wake"
-# What didn't come back is written again after so long without any message.
-QUIET_SECONDS = 5.0
+# What didn't come back is written again after so long without any message, and reading begins anew after so long; after
+# longer if nothing is waited for.
+QUIET_SECONDS, DEAF_SECONDS, IDLE_SECONDS = 5.0, 6.0, 30.0
 # So many messages are read before the loop looks after other partitions.
 PIECE = 50
 # So soon a node sees that its broker is gone.
@@ -107,6 +108,8 @@ class PartitionNode:
         # When a message was read or written last, and up to which sequence what was written was written again.
         self.heard = 0.0
         self.rewritten = 0
+        # When a message was read last, or reading began.
+        self.read_at = 0.0
         self.looks = 0
         # How many records counted at the last look, and when one counted last, or none waited to.
         self.counted = 0
@@ -173,7 +176,7 @@ class PartitionNode:
             self.load()
         assert self.bridge is not None and self.stream is not None
         channel.basic_qos(prefetch_count=self.node.window)
-        self.heard = time.monotonic()
+        self.heard = self.read_at = time.monotonic()
         self.stream.open(self.link.connection)
         if self.stream.place.offset == positions.BEFORE:
             self.stream.write(positions.first_text(self.stream.place.digest))
@@ -238,7 +241,7 @@ class PartitionNode:
 
     def read(self, message: Message) -> None:
         assert self.bridge is not None
-        self.heard = time.monotonic()
+        self.heard = self.read_at = time.monotonic()
         self.bridge.read(message)
         if self.is_gap(message):
             self.write_again()
@@ -435,11 +438,8 @@ class PartitionNode:
         if self.bridge is None or self.stream is None or self.journals is None:
             return
         self.keep_position()
-        if self.link.channel is not None and now - self.heard > QUIET_SECONDS:
-            if not self.stream.is_compared:
-                self.stream.probe()
-            if self.is_owed():
-                self.write_again()
+        if self.link.channel is not None:
+            self.look_at_stream(now)
         self.looks += 1
         if self.looks % 2 == 0:
             self.serving.look()
@@ -448,6 +448,19 @@ class PartitionNode:
         self.tell_figures(now)
         if self.bridge.state in (State.WAITING, State.SERVING) and now - self.not_before > STEADY_SECONDS:
             self.delay = 0.0
+
+    def look_at_stream(self, now: float) -> None:
+        """Writes again what didn't come back, and reads by a new channel if nothing comes: the broker tells of neither."""
+        assert self.stream is not None
+        is_owed = self.is_owed()
+        if now - self.heard > QUIET_SECONDS:
+            if not self.stream.is_compared:
+                self.stream.probe()
+            if is_owed:
+                self.write_again()
+        if now - self.read_at > (DEAF_SECONDS if is_owed else IDLE_SECONDS):
+            self.read_at = now
+            self.stream.read_anew()
 
     def look_at_disk(self, now: float) -> None:
         """Lets another machine serve if this one's disk takes no record for long."""

@@ -2,7 +2,8 @@
 
 A confirm says nothing: the broker may confirm a message and lose it. Only what is read back is there. So writing has a
 channel of its own, and what doesn't come back is written again on a new one. Reading has a channel of its own too, and
-is ended by closing that: a stream bears no other end.
+is ended by closing that: a stream bears no other end. A reader may stand still for ever after a stream's leader went:
+who hears nothing for a while reads on by a new one.
 
 Each reading begins with the message that was read last, which has to be the same. So a stream that lost its end, was
 made anew, or doesn't reach back so far is noticed.
@@ -140,6 +141,13 @@ class Stream:
 
         if self.is_usable():
             self.connection.channel(on_open_callback=opened)
+
+    def read_anew(self) -> None:
+        """Leaves the channel for another one: the broker may deliver nothing more on it, without a word."""
+        channel, self.reading = self.reading, None
+        if channel is not None and self.is_usable():
+            close(channel)
+        self.open_reading()
 
     def delivered(self, channel: Channel, delivery: Delivery, properties: Properties, body: bytes) -> None:
         if channel is self.reading:
