@@ -147,8 +147,11 @@ class PartitionNode:
         try:
             if not self.is_stopped:
                 step()
-        except (Refusal, Diverged, MessageFault) as fault:
+        except (Refusal, Diverged) as fault:
             self.stop(str(fault))
+        except MessageFault as fault:
+            # (its text has a piece of the message)
+            self.stop(without_cards(str(fault)))
         except Passing as fault:
             self.begin_again(str(fault))
         except OSError as fault:
