@@ -11,6 +11,7 @@ ask() { issuer-ask --partitions 1 --seconds 120 --broker-file /etc/issuer/broker
 state() { systemctl is-active $UNITS | xargs; }
 # Waits until both units run, as long as a busy machine may take.
 settled() { for _ in $(seq 60); do [ "$(state)" = "active active" ] && break; sleep 0.5; done; state; }
+node_settled() { for _ in $(seq 60); do [ "$(systemctl is-active issuer-node)" = active ] && break; sleep 0.5; done; systemctl is-active issuer-node; }
 main_of() { systemctl show -P MainPID "$1"; }
 # The unit that has a host, and the host.
 active() { for unit in $UNITS; do for child in $(cat /proc/"$(main_of $unit)"/task/*/children 2>/dev/null); do echo "$unit $child"; done; done | head -1; }
@@ -105,4 +106,25 @@ systemctl start $UNITS
 check the_whole_one_starts_both_again "$(settled) $(ask 9)" "active active 8 fresh"
 check an_order_is_put_by_the_socket "$(issuer-order --socket /run/issuer-0/orders /run/issuer-standby-0/orders < /mnt/order | cut -d' ' -f1)" set
 
-journalctl -u issuer@0 -u issuer-standby@0 -o cat --no-pager
+# The node of a machine, in place of the bridges.
+systemctl stop $UNITS
+mv /run/keys/0.json /etc/issuer/0.json
+issuer-queues --partitions 1 --streams --broker-file /etc/issuer/broker
+install -d -m 700 -o issuer -g issuer /var/lib/issuer/node /run/issuer-node
+cp /mnt/node.json /etc/issuer/node.json
+install -m 400 -o issuer -g issuer -t /run/issuer-node /etc/issuer/*.json /etc/issuer/broker
+runuser -u issuer -- issuer-node --begin /run/issuer-node/node.json
+systemctl start issuer-node
+check a_node_starts "$(systemctl is-active issuer-node)" active
+check its_partition_answers "$(ask 10)" "8 fresh"
+NODE=$(main_of issuer-node)
+check the_node_is_the_users "$(stat -c %U "/proc/$NODE") $(status_of "$NODE" NoNewPrivs) $(status_of "$NODE" Seccomp)" "issuer 1 2"
+check an_order_is_put_to_the_node "$(issuer-order --socket /run/issuer-node/orders < /mnt/order | cut -d' ' -f1)" set
+kill -9 "$NODE"
+check a_killed_node_is_started_again "$(ask 11) $(node_settled)" "8 fresh active"
+systemctl restart rabbitmq-server
+check a_node_survives_the_brokers_restart "$(ask 12) $(node_settled)" "8 fresh active"
+systemctl stop issuer-node
+check a_node_ends_in_order "$(systemctl show -P ExecMainStatus issuer-node)" 0
+
+journalctl -u issuer@0 -u issuer-standby@0 -u issuer-node -o cat --no-pager

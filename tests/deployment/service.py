@@ -20,7 +20,7 @@ from runs import content_of, write_text
 # The greatest exposure that `systemd-analyze security` may find.
 EXPOSURE = 1.1
 DEPLOY = os.path.join(HOME, "deploy")
-UNITS = ("issuer@.service", "issuer-standby@.service", "issuer-gateway.service")
+UNITS = ("issuer@.service", "issuer-standby@.service", "issuer-gateway.service", "issuer-node.service")
 FIGURE = re.compile(r"\bissuer_\w+")
 # Where the figures' names stand.
 FIGURE_FILES = ("figures.py", "textfile.py")

@@ -5,6 +5,7 @@ import hashlib
 import json
 import os
 import secrets
+import shlex
 import signal
 import socket
 import subprocess
@@ -12,12 +13,14 @@ import time
 from collections.abc import Callable, Mapping
 from typing import Optional
 
+from issuer_host.paths import HOME
 from issuer_host.replication.trials.network import Machine, Network
 from issuer_host.service.broker import MAX_MESSAGE
 from issuer_host.service.broker_facts import Permissions
 from issuer_host.service.broker_rules import NODE_MAY, OPERATOR_MAY, PUBLISHER_LIMITS, PUBLISHER_MAY
 from issuer_host.service.trials.private_broker import COMMAND, CONTROL, LOOK_SECONDS
 
+REJOIN = os.path.join(HOME, "deploy", "rejoin")
 PORT, BETWEEN_NODES = 5672, 25672
 OPERATOR, NODE, PUBLISHER = "issuer-operator", "issuer-bridge", "publisher"
 USERS: Mapping[str, Permissions] = {OPERATOR: OPERATOR_MAY, NODE: NODE_MAY, PUBLISHER: PUBLISHER_MAY}
@@ -75,6 +78,7 @@ class BrokerNode:
         self.machine = machine
         self.folder = folder
         self.process: "Optional[subprocess.Popen[bytes]]" = None
+        self.watching: "Optional[subprocess.Popen[bytes]]" = None
         # What its processes have beside their environment.
         self.more: dict[str, str] = {}
 
@@ -129,6 +133,24 @@ class BrokerNode:
                 start_new_session=True,
             )
         write(self.pid_file, str(self.process.pid))
+
+    def watch(self) -> None:
+        """Runs deploy/rejoin beside the node, if it doesn't run yet."""
+        if self.watching is not None and self.watching.poll() is None:
+            return
+        control = os.path.join(self.folder, "control")
+        own = {name: value for name, value in self.environment.items() if os.environ.get(name) != value}
+        words = [f"{name}={value}" for name, value in own.items()]
+        command = shlex.join(["env", *words, CONTROL, "--longnames", "--node", name_of(self.machine)])
+        write(control, f'#!/bin/sh\nexec {command} "$@"\n', 0o700)
+        with open(os.path.join(self.folder, "rejoin.log"), "ab") as log:
+            self.watching = subprocess.Popen(
+                self.network.command(self.machine, [REJOIN, "--control", control]),
+                stdin=subprocess.DEVNULL,
+                stdout=log,
+                stderr=log,
+                start_new_session=True,
+            )
 
     def kill(self) -> None:
         """Ends the node as a crash does. Erlang's port mapper stays."""

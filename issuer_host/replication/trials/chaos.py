@@ -267,6 +267,7 @@ def run(options: Options, tally: Tally) -> None:
         make_configurations(room, options.program, PARTITIONS)
         machines = Machines(room, options.program, cluster_tick=options.tick)
         machines.is_loud = options.loud
+        machines.are_watched = True
         try:
             play(options, machines, tally)
         finally:

@@ -50,6 +50,8 @@ class Machines:
         self.partitions = partitions
         self.configurations = os.path.join(room, "configurations")
         self.is_loud = False
+        # Whether deploy/rejoin runs beside each broker.
+        self.are_watched = False
         self.is_ended = False
         self.lock = threading.Lock()
         # What was to happen and didn't.
@@ -180,6 +182,8 @@ class Machines:
             with self.lock:
                 for node in self.nodes:
                     node.look(time.monotonic())
+                    if node.is_on and self.are_watched:
+                        self.broker_of(node.machine).watch()
             time.sleep(LOOK_SECONDS)
 
     def start_nodes(self) -> None:

@@ -44,8 +44,11 @@ COMMANDS = {
     "gateway": "issuer-gateway",
     "look": "issuer-look",
     "node": "issuer-node",
+    "rejoin": "issuer-rejoin",
 }
-UNIT, STANDBY, GATEWAY = "issuer@.service", "issuer-standby@.service", "issuer-gateway.service"
+UNIT, STANDBY = "issuer@.service", "issuer-standby@.service"
+# Units that are packaged as they are.
+WHOLE_UNITS = ("issuer-gateway.service", "issuer-node.service")
 # A drop-in of the first two.
 ENCRYPTED = "encrypted-configuration.conf"
 MANUALS = ("issuer.1", "issuer-journal.5", "issuer-deploy.8", "issuer-gateway.8")
@@ -125,7 +128,8 @@ def add_commands(tree: Tree) -> None:
         unit = text.read()
     tree.write(f"lib/systemd/system/{UNIT}", unit)
     tree.write(f"lib/systemd/system/{STANDBY}", standby_of(unit))
-    tree.copy(os.path.join(DEPLOY, "units", GATEWAY), f"lib/systemd/system/{GATEWAY}")
+    for name in WHOLE_UNITS:
+        tree.copy(os.path.join(DEPLOY, "units", name), f"lib/systemd/system/{name}")
     for name in sorted(os.listdir(os.path.join(DEPLOY, "dialects"))):
         tree.copy(os.path.join(DEPLOY, "dialects", name), f"{PRIVATE}/deploy/dialects/{name}")
     # (configurations with keys are there)

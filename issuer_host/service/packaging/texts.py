@@ -44,7 +44,7 @@ set -e
 # (a version before this one left compiled modules there)
 find /usr/lib/issuer -depth -type d -name __pycache__ -exec rm -rf {} + || true
 if [ "$1" = remove ] && [ -d /run/systemd/system ]; then
-    deb-systemd-invoke stop issuer-gateway.service 'issuer@*.service' 'issuer-standby@*.service'
+    deb-systemd-invoke stop issuer-gateway.service issuer-node.service 'issuer@*.service' 'issuer-standby@*.service'
 fi
 """
 OVERRIDES = """\
