@@ -453,7 +453,7 @@ class PartitionNode:
             self.delay = 0.0
 
     def look_at_stream(self, now: float) -> None:
-        """Writes again what didn't come back, and reads by a new channel if nothing comes: the broker tells of neither."""
+        """Writes again what didn't come back, and reads by a new channel if nothing comes: nobody tells of either."""
         assert self.stream is not None
         is_owed = self.is_owed()
         if now - self.heard > QUIET_SECONDS:

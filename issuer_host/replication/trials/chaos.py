@@ -182,7 +182,8 @@ def ask_in_rounds(machines: "Machines", rounds: Sequence[Round], dice: random.Ra
         silences.answered(question.partition, question.began, time.monotonic())
 
     files = machines.publisher_files()
-    with PacedAsker(machines.partitions, files, ANSWER_SECONDS, answered) as asker:
+    asker = PacedAsker(machines.partitions, files, ANSWER_SECONDS, answered)
+    with asker:
         for one in rounds:
             silences.begin()
             happening = threading.Timer(dice.uniform(0.5, 3.0), happen, (machines, one.event, dice))
