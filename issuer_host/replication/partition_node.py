@@ -43,7 +43,7 @@ CAREFUL_START = os.path.join(HOME, "deploy", "issuer-run")
 WAKE = b"wake"
 # What didn't come back is written again after so long without any message, and reading begins anew after so long; after
 # longer if nothing is waited for.
-QUIET_SECONDS, DEAF_SECONDS, IDLE_SECONDS = 5.0, 6.0, 30.0
+QUIET_SECONDS, DEAF_SECONDS, IDLE_SECONDS = 3.0, 4.0, 30.0
 # So many messages are read before the loop looks after other partitions.
 PIECE = 50
 # So soon a node sees that its broker is gone.

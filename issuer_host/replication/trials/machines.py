@@ -198,11 +198,15 @@ class Machines:
                 node.off()
                 node.kill()
 
-    def end_nodes(self) -> None:
-        self.is_ended = True
+    def end_nodes_alone(self) -> None:
+        """Ends all nodes in order. They may be started again."""
         with self.lock:
             for node in self.nodes:
                 node.end()
+
+    def end_nodes(self) -> None:
+        self.is_ended = True
+        self.end_nodes_alone()
 
     def end(self) -> None:
         self.end_nodes()
