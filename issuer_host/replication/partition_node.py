@@ -279,12 +279,13 @@ class PartitionNode:
 
     def ready(self) -> None:
         """Stands in the line of the queue's consumers, at its end, and wakes who is the first there."""
-        if self.link.channel is None:
+        channel = self.link.channel
+        if channel is None:
             return
         if self.consumer:
             self.link.begin_anew("another machine serves the partition")
             return
-        self.consumer = self.link.channel.basic_consume(self.queue, self.take)
+        self.consumer = channel.basic_consume(self.queue, self.take)
         self.wake()
 
     def begin_host(self) -> None:

@@ -94,7 +94,7 @@ class Stream:
         self.flush()
 
     def flush(self) -> None:
-        while self.is_open and self.unwritten and self.writing is not None:
+        while self.is_open and self.unwritten and self.writing is not None and self.is_usable():
             text = self.unwritten.popleft()
             self.writing.basic_publish(broker.RECORDS, self.name, text.encode("ascii"), WRITTEN, mandatory=True)
 

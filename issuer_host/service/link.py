@@ -55,7 +55,7 @@ class Link:
         self.on_lost = on_lost
         self.connection: Any = None
         # None until the connection is ready.
-        self.channel: Optional[Channel] = None
+        self.made: Optional[Channel] = None
         self.on_closed: Optional[Action] = None
         self.setup: Optional[object] = None
         # The number of the last message, and what is called with the confirm of each: numbers are in order.
@@ -63,6 +63,11 @@ class Link:
         self.unconfirmed: dict[int, tuple[str, OnConfirm]] = {}
         self.returned: set[str] = set()
         decode_no_headers()
+
+    @property
+    def channel(self) -> Optional[Channel]:
+        """The channel of a connection that is ready; None as soon as it begins to close."""
+        return self.made if self.made is not None and self.made.is_open else None
 
     def open(self) -> None:
         self.connection = WholeConnection(
@@ -95,7 +100,7 @@ class Link:
             steps[0](then)
             return
         self.end_setup()
-        self.channel = channel
+        self.made = channel
         self.number = 0
         self.on_ready(channel)
 
@@ -117,7 +122,7 @@ class Link:
             self.connection.close(200, reason)
 
     def lost(self, _: object, reason: Exception) -> None:
-        self.channel = None
+        self.made = None
         self.end_setup()
         self.unconfirmed.clear()
         self.returned.clear()
@@ -140,20 +145,22 @@ class Link:
         self, exchange: str, key: str, body: bytes, correlation: str, then: OnConfirm, reply_to: Optional[str] = None
     ) -> None:
         """Publishes a message, and calls `then` with what the broker did; never if the connection is lost before."""
-        if self.channel is None:
+        channel = self.channel
+        if channel is None:
             return
         properties = pika.BasicProperties(
             delivery_mode=2, correlation_id=correlation, reply_to=reply_to, content_type="text/plain"
         )
         self.number += 1
         self.unconfirmed[self.number] = correlation, then
-        self.channel.basic_publish(exchange, key, body, properties, mandatory=True)
+        channel.basic_publish(exchange, key, body, properties, mandatory=True)
 
     def wake(self, exchange: str, key: str, body: bytes) -> None:
         """Publishes a message that has no answer, and that nobody misses."""
-        if self.channel is not None:
+        channel = self.channel
+        if channel is not None:
             self.number += 1
-            self.channel.basic_publish(exchange, key, body, pika.BasicProperties(delivery_mode=2))
+            channel.basic_publish(exchange, key, body, pika.BasicProperties(delivery_mode=2))
 
     def confirmed(self, frame: Any) -> None:
         method = frame.method

@@ -55,6 +55,10 @@ OnMessage = Callable[["Channel", Delivery, Properties, bytes], None]
 class Channel(Protocol):
     """The calls on a channel that are used. A `callback` is called when the broker has done what was asked."""
 
+    @property
+    def is_open(self) -> bool:
+        """Whether it takes calls: one that begins to close takes none."""
+
     def basic_qos(self, prefetch_size: int = 0, prefetch_count: int = 0) -> None:
         ...
 

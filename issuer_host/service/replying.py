@@ -33,8 +33,9 @@ class Replying:
         self.deaf = DeafQueues()
 
     def settle(self, entry: Entry, is_acknowledged: bool) -> None:
-        if self.link.channel:
-            self.flight.settle(entry, is_acknowledged, self.link.channel)
+        channel = self.link.channel
+        if channel:
+            self.flight.settle(entry, is_acknowledged, channel)
         self.on_settled()
 
     def is_current(self, entry: Entry) -> bool:
