@@ -44,11 +44,15 @@ module _ {A B : Type 0} (R : A → B → Type 0) where
   zip-there (z ∷ xs) (w ∷ ys) (suc index) x y zips x_is y_is = zip-there xs ys index x y zips.1 x_is y_is
 
   -- what was looked up for a line, by its index and that of the first one
-  pub ahead-there : (first index : ℕ) (xs : List A) (x : A) (ys : List B) (y : B) → AllZip R (take (length ys) (drop first xs)) ys
-      → slice_get xs (first + index) ≡ Some x → slice_get ys index ≡ Some y → R x y
-  ahead-there zero index xs x ys y zips x_is y_is = zip-there xs ys index x y zips x_is y_is
-  ahead-there (suc first) index [] x ys y zips x_is y_is = absurd (none-some x x_is)
-  ahead-there (suc first) index (z ∷ xs) x ys y zips x_is y_is = ahead-there first index xs x ys y zips x_is y_is
+  pub ahead-there : (first place : ℕ) (xs : List A) (x : A) (ys : List B) (y : B) (index : ℕ) → place ≡ first + index
+      → AllZip R (take (length ys) (drop first xs)) ys → slice_get xs place ≡ Some x → slice_get ys index ≡ Some y → R x y
+  ahead-there zero place xs x ys y index place_is zips x_is y_is =
+      let same : place ≡ index = omega (arith, place_is) in
+      zip-there xs ys index x y zips (subst (λ (place : ℕ). slice_get xs place ≡ Some x) same x_is) y_is
+  ahead-there (suc first) place [] x ys y index place_is zips x_is y_is = absurd (none-some x x_is)
+  ahead-there (suc first) zero (z ∷ xs) x ys y index place_is zips x_is y_is = absurd (omega (arith, place_is))
+  ahead-there (suc first) (suc place) (z ∷ xs) x ys y index place_is zips x_is y_is =
+      ahead-there first place xs x ys y index (omega (arith, place_is)) zips x_is y_is
 
 -- an index within a list has an element
 pub there : {A B : Type 0} (now : A → B) (found : Option A) (all : List B) (index : ℕ) → option_map now found ≡ slice_get all index → index < length all

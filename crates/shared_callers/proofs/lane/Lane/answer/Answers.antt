@@ -40,10 +40,10 @@ its g c =
     let lines = c.look_ahead-first.new.self.lines.lines in
     let (below, above) = c.look_ahead-first.ensures.within in
     let line = get_or c.args.self.now.lines.lines place [] in
-    let at : first + (place - first) ≡ place = omega (arith, below) in
+    let at : place ≡ first + (place - first) = omega (arith, below) in
     let found_is = sym c.get.ensures ∙ ap (option_map (λ found. found.now)) c.unwrap-found.ensures in
-    ahead-there (IsLookUp c.args.host.now.issuer) first (place - first) lines line c.look_ahead-first.new.self.ahead c.unwrap-found.result.now
-    c.look_ahead-first.ensures.ahead (subst (λ place. slice_get lines place ≡ Some line) (sym at) (line-there g c)) found_is
+    ahead-there (IsLookUp c.args.host.now.issuer) first place lines line c.look_ahead-first.new.self.ahead c.unwrap-found.result.now (place - first)
+    at c.look_ahead-first.ensures.ahead (line-there g c) found_is
 
 pub answer_line-answer-requires-clause-found : goal.answer_line-answer-requires-clause-found
 answer_line-answer-requires-clause-found g c = (

@@ -1,10 +1,10 @@
 -- One more line is looked up.
-use Rattle.std.proofs.Common.{List, Result, length, take, drop, ap, sym, subst, arith}
+use Rattle.std.proofs.Common.{List, All, Result, length, take, drop, ap, sym, subst, arith}
 use Rattle.std.specs.List.{AllZip}
 use Rattle.std.proofs.lemmas.List.{length-append}
 use Rattle.issuer_base.specs.declared.answer.Refusal.{Refusal}
 use Rattle.issuer_setup.specs.IssuerSetup.{Setup}
-use Rattle.line_checks.specs.LookedUp.{IsLookUp}
+use Rattle.line_checks.specs.LookedUp.{IsLookUp, IsReady}
 use Rattle.line_checks.specs.declared.looked_up.LookedUp.{LookedUp}
 use Rattle.line_checks.proofs.LookUps.{all-ready}
 use Rattle.shared_callers.specs.OneLane.{looked_up_lines}
@@ -12,7 +12,9 @@ use Rattle.shared_callers.proofs.LooksAhead.{look-up-is, next-ahead}
 use Rattle.shared_callers.proofs.lane.Lane.look_up_lines.Goals as goal
 
 pub check-requires : goal.check-requires
-check-requires g c = all-ready c.args.host.now.issuer (looked_up_lines c.args.place c.loop-index.self) c.loop-index.self.ahead c.loop-index.invariant.ahead
+check-requires g c =
+    subst (λ (issuer : Setup). All (IsReady issuer) c.loop-index.self.ahead) (sym c.issuer-2.ensures)
+    (all-ready c.args.host.now.issuer (looked_up_lines c.args.place c.loop-index.self) c.loop-index.self.ahead c.loop-index.invariant.ahead)
 
 pub loop-index-preserved : goal.loop-index-preserved
 loop-index-preserved g c =
