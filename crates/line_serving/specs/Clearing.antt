@@ -1,30 +1,47 @@
 -- What a clearing check reads and writes, by how it ended.
-use Rattle.std.specs.Prelude.{◌≡◌, ◌⊎◌, ℕ, List, [], ◌++◌, Option, Result, Ok, Err}
+use Rattle.std.specs.Prelude.{◌≡◌, ◌⊎◌, ℕ, ◌+◌, ◌<◌, ◌≤◌, List, [], ◌++◌, length, Option, Result, Ok, Err}
 use Rattle.std.specs.Io.KnownBytes.{Appends}
 use Rattle.issuer_base.specs.declared.faults.WriteFault.{WriteFault}
-use Rattle.issuer_base.specs.Sink.{AppendsFront, WritesAll}
+use Rattle.issuer_base.specs.Sink.{AppendsFront}
 use Rattle.issuer_setup.specs.IssuerSetup.{Setup}
 use Rattle.line_reader.specs.Reading.{unread}
+use Rattle.line_checks.specs.declared.lines_ahead.TheConstants.{MOST_AHEAD}
+use Rattle.line_blocks.specs.declared.block.TheConstants.{BLOCK_LINES}
 use Rattle.line_blocks.specs.declared.served.Served.{Served}
 use Rattle.line_blocks.specs.declared.served.Served.TheVariants.{All, ReadFault, WriteFault as SinkFault, TooLong}
 use Rattle.line_blocks.specs.Answered.{AreAllLines, AreWholeLines, AreLinesBefore, AreFirstLines}
 use Rattle.line_blocks.specs.Serving.{ServesLines}
 use Rattle.clearing_check.specs.declared.filed.Filed.{Filed}
+use Rattle.clearing_check.specs.ClearingLine.{AreAhead, LookUps, none_ahead}
 use Rattle.clearing_check.specs.ClearText.{verdicts_text, after_lines, clear_text}
 use Rattle.line_serving.specs.declared.judge.Judge.{Judge}
 
--- it has read nothing, and no text is due
+-- it has read nothing, no text is due, and no line waits
 pub record IsNew (judge : Judge) : Type 0 where
   pub reads_first : judge.reader ≡ unread
   pub none_due : judge.block.text.items ≡ []
   pub no_lines : judge.block.lines ≡ 0
+  pub none_waits : judge.ahead ≡ none_ahead
 
--- these lines are judged since the book had these records, their verdicts have this text, and none waits
+-- these lines are judged since the book had these records, their verdicts have this text, and these were looked up and
+-- wait
 pub record HasJudged (issuer : Setup) (records now : List Filed) (lines : List (List ℕ)) (text : List ℕ)
-    (waiting : List (List ℕ)) : Type 0 where
-  pub none_waits : waiting ≡ []
+    (waiting : List (List ℕ)) (ahead : LookUps) : Type 0 where
+  pub waits : AreAhead issuer waiting ahead
   pub text_is : text ≡ verdicts_text issuer records lines
   pub records_are : now ≡ after_lines issuer records lines
+
+-- the lines that wait were looked up and are fewer than are checked together, and their verdicts fit the block
+pub record MaySettle (issuer : Setup) (judge : Judge) : Type 0 where
+  pub waiting : List (List ℕ)
+  pub waits : AreAhead issuer waiting judge.ahead
+  pub few : length judge.ahead.found < MOST_AHEAD
+  pub fit : judge.block.lines + length judge.ahead.found ≤ BLOCK_LINES
+
+-- so does the verdict on another line
+pub record TakesMore (issuer : Setup) (judge : Judge) : Type 0 where
+  pub may_settle : MaySettle issuer judge
+  pub fits : judge.block.lines + length judge.ahead.found < BLOCK_LINES
 
 -- what a clearing check with these filed records did, by how it ended: of the input before and after, and of the sink
 -- before and after. At the end of the input the whole text was written; at a fault of the input or a limit the verdicts
@@ -47,18 +64,6 @@ Clears issuer records was now held_before held_after (TooLong number) =
     (λ lines text. text ≡ verdicts_text issuer records lines) (Appends held_before held_after) was now
 
 -- ---- blocks
-
--- what is due was written, and nothing is left; or it was a prefix, and the sink failed; or it is left as it was
-abbrev pub WritesBlock : List ℕ → List ℕ → Option (List ℕ) → Option (List ℕ) → Result (Unit {0}) WriteFault → Type 0
-WritesBlock due left held_before held_after result =
-    ((left ≡ []) × WritesAll held_before held_after result due)
-    ⊎ ((result ≡ Ok tt) × (left ≡ due) × (held_after ≡ held_before))
-
--- what is due was written, and the reading ended so; or it was a prefix, and the sink failed
-abbrev pub Ends : List ℕ → Option (List ℕ) → Option (List ℕ) → Served → Served → Type 0
-Ends due held_before held_after how ended =
-    ((ended ≡ how) × Appends held_before held_after due)
-    ⊎ ((ended ≡ SinkFault) × AppendsFront held_before held_after due)
 
 -- a line follows what was due: a part of both was written, and the remainder is due; or the sink failed at a prefix
 abbrev pub Puts : List ℕ → List ℕ → List ℕ → Option (List ℕ) → Option (List ℕ) → Result (Unit {0}) WriteFault → Type 0

@@ -1,20 +1,20 @@
-//! Clearing lines, judged one after another, and their verdicts, written in blocks.
-ghost use Rattle.std.specs.Prelude.{◌≡◌, ℕ, ◌+◌, ◌<◌, ◌≤◌, List, [], ◌++◌, length, map, true, false, is_err, IfOk};
+//! Clearing lines, checked together and judged one after another, and their verdicts, written in blocks.
+ghost use Rattle.std.specs.Prelude.{◌≡◌, ℕ, ◌+◌, ◌<◌, ◌≤◌, List, [], ◌++◌, length, map, true, false, is_err, IfOk, OnOk};
 ghost use Rattle.issuer_base.specs.OutsideFaults.{Rose, CountsFaults};
 ghost use Rattle.issuer_base.specs.Sink.{WritesAll};
 ghost use Rattle.line_reader.specs.Reading.{kept};
 ghost use Rattle.line_blocks.specs.declared.block.TheConstants.{BLOCK_LINES};
-ghost use Rattle.line_blocks.specs.Serving.{Serves, read_failed, write_failed};
+ghost use Rattle.line_blocks.specs.Serving.{Finishes, Serves, TakesLine, WritesDue, read_failed, write_failed};
 ghost use Rattle.clearing_check.specs.declared.filed.Filed.{Filed};
-ghost use Rattle.clearing_check.specs.Verdicts.{verdict, after_line};
-ghost use Rattle.clearing_check.specs.ClearText.{verdict_text, closing_text};
+ghost use Rattle.clearing_check.specs.ClearingLine.{AreAhead, none_ahead};
+ghost use Rattle.clearing_check.specs.ClearText.{after_lines, closing_text, verdicts_text};
 
 use answer_text::LINE_ROOM;
 use arrayvec::ArrayVec;
-use clearing_check::{Book, write_open, write_total, write_verdict};
+use clearing_check::{Book, PresentedAhead, write_open, write_total, write_verdict};
 use issuer_base::{NoMemory, Sink, Source, WriteFault};
 use issuer_setup::Issuer;
-use line_blocks::{Block, Served};
+use line_blocks::{BLOCK_LINES, Block, Served};
 use line_reader::{LineReader, NextLine};
 use std::alloc::Global;
 
@@ -24,12 +24,15 @@ pub struct Judge {
     reader: LineReader,
     block: Block,
 
+    /// What was looked up for the lines that wait to be judged.
+    ahead: PresentedAhead,
+
     /// The last line that was put into the block.
     line: ArrayVec<u8, LINE_ROOM>,
 }
 
 impl Judge {
-    ghost use Rattle.line_serving.specs.Clearing.{Clears, Ends, HasJudged, IsNew, Puts, WritesBlock};
+    ghost use Rattle.line_serving.specs.Clearing.{Clears, HasJudged, IsNew, MaySettle, Puts, TakesMore};
 
     /// All the memory that a clearing check takes beside its book.
     pub fn new(alloc: Global) -> Result<Self, NoMemory>
@@ -38,6 +41,7 @@ impl Judge {
         Ok(Judge {
             reader: LineReader::new(alloc)?,
             block: Block::new(alloc)?,
+            ahead: PresentedAhead::new(alloc)?,
             line: ArrayVec::new(),
         })
     }
@@ -75,8 +79,8 @@ impl Judge {
         out: &mut W,
     ) -> Served
         requires { IsNew self.old }
-        ensures served { Serves (λ lines text. HasJudged issuer.now book.old book.new (map kept lines) text [])
-            (I.left source.old) (I.left source.new) (W.held out.old) (W.held out.new) result }
+        ensures served { Serves (λ lines text. HasJudged issuer.now book.old book.new (map kept lines) text []
+            self.new.ahead) (I.left source.old) (I.left source.new) (W.held out.old) (W.held out.new) result }
         ensures empty { write_failed result ≡ false
             → (self.new.block.text.items ≡ []) × (self.new.block.lines ≡ 0) }
         ensures source_count { read_failed result ≡ true → Rose (I.faults source.old) (I.faults source.new) }
@@ -85,64 +89,115 @@ impl Judge {
         loop {
             match self.reader.next_line(source) {
                 NextLine::Line => {
-                    self.judge_line(issuer, book);
-                    match self.write_due(out) {
+                    self.take_line(issuer, book);
+                    match self.write_due(issuer, book, out) {
                         Ok(()) => {}
                         Err(WriteFault) => return Served::WriteFault,
                     }
                 }
                 NextLine::Rest => {
-                    self.judge_line(issuer, book);
-                    return self.end(Served::All, out);
+                    self.take_line(issuer, book);
+                    return self.end(issuer, book, Served::All, out);
                 }
-                NextLine::End => return self.end(Served::All, out),
-                NextLine::Fault => return self.end(Served::ReadFault, out),
+                NextLine::End => return self.end(issuer, book, Served::All, out),
+                NextLine::Fault => return self.end(issuer, book, Served::ReadFault, out),
                 NextLine::TooLong => {
                     let line = u64::from(self.reader.number()) + 1;
-                    return self.end(Served::TooLong { line }, out);
+                    return self.end(issuer, book, Served::TooLong { line }, out);
                 }
             }
         }
     }
 
-    /// Judges the line in hand. Its verdict goes into the block.
-    fn judge_line(&mut self, issuer: &Issuer, book: &mut Book)
-        requires { self.old.block.lines < BLOCK_LINES }
-        ensures text { self.new.block.text.items ≡ self.old.block.text.items
-            ++ verdict_text (verdict issuer.now book.old self.old.reader.line) }
-        ensures lines { self.new.block.lines ≡ self.old.block.lines + 1 }
-        ensures book { book.new ≡ after_line issuer.now book.old self.old.reader.line }
+    /// Looks up the line in hand, which waits until as many lines wait as are checked together.
+    fn take_line(&mut self, issuer: &Issuer, book: &mut Book)
+        requires { TakesMore issuer.now self.old }
+        ensures taken { (records : List Filed) (lines : List (List ℕ)) (text : List ℕ) (waiting : List (List ℕ))
+            → HasJudged issuer.now records book.old lines text waiting self.old.ahead
+            → TakesLine (λ lines text waiting. HasJudged issuer.now records book.new lines text waiting self.new.ahead)
+            lines text waiting self.old.reader.line self.old.block.text.items self.new.block.text.items }
+        ensures open { MaySettle issuer.now self.new }
         ensures reader { self.new.reader ≡ self.old.reader }
     {
-        let verdict = book.judge(issuer, self.reader.line());
-        write_verdict(&verdict, &mut self.line);
-        self.block.add_line(&self.line);
+        self.ahead.add(issuer, self.reader.line());
+        if self.ahead.is_full() {
+            self.settle(issuer, book);
+        }
     }
 
-    /// Writes the verdicts where that is due: where no other line fits the block, or no whole line is in hand.
-    fn write_due<W: Sink>(&mut self, out: &mut W) -> Result<(), WriteFault>
-        requires { self.old.block.lines ≤ BLOCK_LINES }
-        ensures written { WritesBlock self.old.block.text.items self.new.block.text.items (W.held out.old)
-            (W.held out.new) result }
-        ensures room { self.new.block.lines < BLOCK_LINES }
+    /// Judges all lines that wait, once their cryptograms were checked, together if they are many. The verdicts go into
+    /// the block.
+    fn settle(&mut self, issuer: &Issuer, book: &mut Book)
+        requires room { self.old.block.lines + length self.old.ahead.found ≤ BLOCK_LINES }
+        requires ahead { (lines : List (List ℕ)) × AreAhead issuer.now lines self.old.ahead }
+        ensures judged { (lines : List (List ℕ)) → AreAhead issuer.now lines self.old.ahead
+            → (book.new ≡ after_lines issuer.now book.old lines) × (self.new.block.text.items
+            ≡ self.old.block.text.items ++ verdicts_text issuer.now book.old lines) }
+        ensures none { self.new.ahead ≡ none_ahead }
+        ensures count { self.new.block.lines ≡ self.old.block.lines + length self.old.ahead.found }
+        ensures reader { self.new.reader ≡ self.old.reader }
+    {
+        self.ahead.check();
+        for index in 0..self.ahead.len() {
+            let found = self.ahead.get(index).unwrap();
+            write_verdict(&book.judge_presented(issuer, found), &mut self.line);
+            self.block.add_line(&self.line);
+        }
+        self.ahead.clear();
+    }
+
+    /// Judges the lines that wait and writes the verdicts, where that is due.
+    fn write_due<W: Sink>(
+        &mut self,
+        issuer: &Issuer,
+        book: &mut Book,
+        out: &mut W,
+    ) -> Result<(), WriteFault>
+        requires { MaySettle issuer.now self.old }
+        ensures written { (records : List Filed) (lines : List (List ℕ)) (text : List ℕ) (waiting : List (List ℕ))
+            → HasJudged issuer.now records book.old lines text waiting self.old.ahead
+            → WritesDue (λ lines text waiting. HasJudged issuer.now records book.new lines text waiting self.new.ahead)
+            lines text waiting self.old.block.text.items self.new.block.text.items self.old.reader self.new.reader
+            (W.held out.old) (W.held out.new) result }
+        ensures room { OnOk result (TakesMore issuer.now self.new) }
         ensures reader { self.new.reader ≡ self.old.reader }
         ensures count { CountsFaults (W.faults out.old) (W.faults out.new) (is_err result) }
     {
-        if self.block.is_full() || !self.reader.has_line() {
+        if self.is_due() {
+            self.settle(issuer, book);
             self.block.write(out)
         } else {
             Ok(())
         }
     }
 
-    /// Writes what is left in the block, and says how the reading ended.
-    fn end<W: Sink>(&mut self, served: Served, out: &mut W) -> Served
-        ensures ended { Ends self.old.block.text.items (W.held out.old) (W.held out.new) served result }
+    /// Whether verdicts are to be written before more is read: no other line fits the block, or no whole line is in hand.
+    fn is_due(&self) -> bool
+        requires { self.now.block.lines + length self.now.ahead.found ≤ BLOCK_LINES }
+        ensures { result ≡ false → self.now.block.lines + length self.now.ahead.found < BLOCK_LINES }
+    {
+        self.block.lines() + self.ahead.len() == BLOCK_LINES || !self.reader.has_line()
+    }
+
+    /// Judges the lines that wait, writes what is left in the block, and says how the reading ended.
+    fn end<W: Sink>(
+        &mut self,
+        issuer: &Issuer,
+        book: &mut Book,
+        served: Served,
+        out: &mut W,
+    ) -> Served
+        requires { MaySettle issuer.now self.old }
+        ensures ended { (records : List Filed) (lines : List (List ℕ)) (text : List ℕ) (waiting : List (List ℕ))
+            → HasJudged issuer.now records book.old lines text waiting self.old.ahead
+            → Finishes (λ lines text waiting. HasJudged issuer.now records book.new lines text waiting self.new.ahead)
+            lines text waiting self.old.block.text.items (W.held out.old) (W.held out.new) served result }
         ensures empty { (self.new.block.text.items ≡ []) × (self.new.block.lines ≡ 0) }
         ensures count { write_failed served ≡ false
             → CountsFaults (W.faults out.old) (W.faults out.new) (write_failed result) }
         ensures read { read_failed result ≡ true → read_failed served ≡ true }
     {
+        self.settle(issuer, book);
         match self.block.write(out) {
             Ok(()) => served,
             Err(WriteFault) => Served::WriteFault,
