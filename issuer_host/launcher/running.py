@@ -12,7 +12,7 @@ SIGNALS = (signal.SIGINT, signal.SIGTERM, signal.SIGHUP)
 # Linux's numbers for prctl and fcntl; Python has the second from 3.10 on.
 PR_SET_PDEATHSIG = 1
 F_SETPIPE_SZ = 1031
-# Blocks of answers are up to 1,024 lines.
+# Blocks of answers are up to 2,048 lines.
 PIPE_BYTES = 1 << 20
 PIECE = 1 << 16
 # The last line of an output lies in so many bytes of its end.

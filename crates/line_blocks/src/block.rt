@@ -13,7 +13,7 @@ use issuer_base::{Answer, NoMemory, Sink, WriteFault, write_all};
 use std::alloc::Global;
 
 /// How many lines a block has, at most; so many lines may wait before they are answered.
-pub const BLOCK_LINES: usize = 1_024;
+pub const BLOCK_LINES: usize = 2_048;
 
 /// How many bytes their answers have, at most.
 const BLOCK_ROOM: usize = BLOCK_LINES * LINE_ROOM;

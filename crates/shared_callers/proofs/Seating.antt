@@ -1,7 +1,7 @@
 -- The passes of lanes as they are split off, and the initial state of the lanes.
-use Rattle.std.proofs.Common.{◌≡◌, ℕ, ◌*◌, ◌/◌, ◌<◌, ◌≤◌, List, [], ◌∷◌, ◌++◌, length, All, refl, sym, ap, subst, ◌∙◌, append-nil, arith}
+use Rattle.std.proofs.Common.{◌≡◌, ℕ, ◌*◌, ◌/◌, ◌<◌, ◌≤◌, max, List, [], ◌∷◌, ◌++◌, length, All, refl, sym, ap, subst, ◌∙◌, append-nil, arith}
 use Rattle.std.proofs.lemmas.List.Elements.{All-push}
-use Rattle.std.proofs.Math.Nat.{mul-div-le, le-div_iff_mul-le, one-le-mul}
+use Rattle.std.proofs.Math.Nat.{div-mul-le_self, le_trans, le-div_iff_mul-le, max-le, mul_comm}
 use Rattle.std.specs.List.{flat_map}
 use Rattle.issuer_base.specs.declared.outside.store.Store.{Ghosts}
 use Rattle.issuer_setup.specs.IssuerSetup.{Setup}
@@ -113,14 +113,14 @@ new-dealt issuer opening lanes half waits dues new = record {
   had = new-all-had issuer opening lanes new;
 }
 
--- so many lanes with room for their part of so many lines
-pub room-some : (lines count : ℕ) → 0 < count → count ≤ lines → 0 < count * (lines / count)
-room-some lines count some fits =
-    let each : 1 ≤ lines / count = (le-div_iff_mul-le some).1 (omega (arith, fits)) in
-    one-le-mul some each
-
-pub room-most : (lines count : ℕ) → count * (lines / count) ≤ lines
-room-most lines count = mul-div-le lines count
+-- lines for each of so many, either as many as are checked together or a part of a few, are no more than the most
+pub each-most : (ahead few most callers : ℕ) → 0 < callers → callers * ahead ≤ most → few ≤ most → callers * max ahead (few / callers) ≤ most
+each-most ahead few most callers some checked fits =
+    let whole : ahead * callers ≤ most = subst (λ n. n ≤ most) (mul_comm callers ahead) checked in
+    let part : few / callers * callers ≤ most = le_trans (div-mul-le_self few callers) fits in
+    let each : max ahead (few / callers) ≤ most / callers =
+    max-le ((le-div_iff_mul-le some).1 whole) ((le-div_iff_mul-le some).1 part) in
+    subst (λ n. n ≤ most) (mul_comm (max ahead (few / callers)) callers) ((le-div_iff_mul-le some).0 each)
 
 -- each of the parts has the same room
 pub rooms-all : (parts : List Part) (count each : ℕ) → All (λ (part : Part). part.lines.room ≡ each) parts

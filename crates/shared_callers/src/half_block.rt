@@ -12,12 +12,14 @@ ghost use Rattle.shared_callers.specs.Turns.{IsBehind, IsWaiting, IsDue};
 ghost use Rattle.shared_callers.specs.declared.half_block.TheConstants.{HALF_LINES};
 
 use crate::part::Part;
-use issuer_base::{Sink, WriteFault};
-use line_blocks::{BLOCK_LINES, Block};
+use issuer_base::{MAX_CALLERS, Sink, WriteFault};
+use line_blocks::Block;
+use line_checks::MOST_AHEAD;
 use line_reader::LineReader;
 
-/// How many lines a half block has, at most: so many may wait, and so many answers be due.
-pub const HALF_LINES: usize = BLOCK_LINES / 2;
+/// How many lines a half block has, at most: so many may wait, and so many answers be due. These are the lines of the
+/// most callers, each with as many as are checked together. Their answers fit a block.
+pub const HALF_LINES: usize = MAX_CALLERS as usize * MOST_AHEAD;
 
 /// A part for each caller, and whose turn it is: the lines of one half block, which wait, and the texts of the answers
 /// of the half block before, which are due.

@@ -1,6 +1,7 @@
 //! The loading of a host for several callers.
-ghost use Rattle.std.specs.Prelude.{◌≡◌, ℕ, ◌<◌, ◌≤◌, ◌/◌, [], length, vec_len, vec_capacity, All, IfOk, IfErr};
+ghost use Rattle.std.specs.Prelude.{◌≡◌, ℕ, ◌<◌, ◌≤◌, ◌*◌, [], length, vec_len, vec_capacity, All, IfOk, IfErr};
 ghost use Rattle.issuer_base.specs.declared.limits.TheConstants.{MAX_CALLERS};
+ghost use Rattle.line_checks.specs.declared.lines_ahead.TheConstants.{MOST_AHEAD};
 ghost use Rattle.shared_laws.specs.OpeningLogs.{HostComesBackTogether};
 ghost use Rattle.host_loading.specs.Loading.{AreOnlyRead};
 ghost use Rattle.shared_shards.specs.ShardSeats.{opening_in};
@@ -14,10 +15,14 @@ use crate::lane::{Lane, LaneRoom};
 use crate::lanes::Lanes;
 use crate::part::Part;
 use host_calls::{Host, HostBack, LoadFault, Pass};
-use issuer_base::{NoMemory, Store};
+use issuer_base::{MAX_CALLERS, NoMemory, Store};
 use issuer_setup::Issuer;
+use line_checks::MOST_AHEAD;
 use std::alloc::Global;
 use std::thread::Threads;
+
+/// How many lines a half block of few callers has.
+const LINES_OF_FEW: usize = 512;
 
 /// The memory of all lanes, and the parts of the half block that they don't have.
 struct AllRoom {
@@ -29,9 +34,8 @@ struct AllRoom {
 impl<S: Store> Lanes<S> {
     ghost use Rattle.shared_callers.specs.Lanes.{AreLoadedFrom};
 
-    /// Loads the host as `Host::load_together` does, for 1 to [`MAX_CALLERS`](issuer_base::MAX_CALLERS) callers and in
-    /// as many threads at most. No later call allocates. If an allocation for the lanes fails, the stores come back as
-    /// they were, and the error names shard 0.
+    /// Loads the host as `Host::load_together` does, for 1 to [`MAX_CALLERS`] callers. No later call allocates. If an
+    /// allocation for the lanes fails, the stores come back as they were, and the error names shard 0.
     pub fn load<R: Threads + Sync>(
         rt: &R,
         alloc: Global,
@@ -49,13 +53,14 @@ impl<S: Store> Lanes<S> {
         ensures stopped { IfErr result (λ back. HostComesBackTogether S.size S.bytes S.disk S.faults issuer
             olds.old.items olds.new.items stores.items back.shard back.fault back.stores.items) }
     {
+        let each = lines_each(usize::from(callers));
         let Ok(
             AllRoom {
                 lanes,
                 rooms,
                 parts,
             },
-        ) = take_room(alloc, callers)
+        ) = take_room(alloc, callers, each)
         else {
             return Err(HostBack {
                 fault: LoadFault::NoMemory,
@@ -73,7 +78,6 @@ impl<S: Store> Lanes<S> {
             }
         };
         let lanes = seat_all(&host, &mut first, lanes, rooms);
-        let each = HALF_LINES / parts.len();
         Ok(Lanes {
             host,
             first,
@@ -83,21 +87,31 @@ impl<S: Store> Lanes<S> {
     }
 }
 
-/// Allocates the memory of all lanes, one for each caller, and of as many parts.
-fn take_room(alloc: Global, callers: u8) -> Result<AllRoom, NoMemory>
-    requires { 0 < callers }
+/// How many lines of a half block are for each of so many callers: of up to four callers an equal part of 512, and of
+/// more as many as are checked together.
+fn lines_each(callers: usize) -> usize
+    requires { (0 < callers) × (callers ≤ MAX_CALLERS) }
+    ensures some { (MOST_AHEAD ≤ result) × (result ≤ HALF_LINES) }
+    ensures most { callers * result ≤ HALF_LINES }
+{
+    MOST_AHEAD.max(LINES_OF_FEW / callers)
+}
+
+/// Allocates the memory of all lanes, one for each caller, and of as many parts, each for so many lines.
+fn take_room(alloc: Global, callers: u8, each: usize) -> Result<AllRoom, NoMemory>
+    requires { (0 < callers) × (each ≤ HALF_LINES) }
     ensures lanes { IfOk result (λ room. (room.lanes.items ≡ []) × (callers ≤ vec_capacity room.lanes)) }
     ensures rooms { IfOk result (λ room. (vec_len room.rooms ≡ callers) × (vec_len room.parts ≡ callers)) }
-    ensures count { IfOk result (λ room. All (λ lane. places_in lane ≡ HALF_LINES / callers) room.rooms.items) }
-    ensures parts { IfOk result (λ room. All (λ part. part.lines.room ≡ HALF_LINES / callers) room.parts.items) }
+    ensures count { IfOk result (λ room. All (λ lane. places_in lane ≡ each) room.rooms.items) }
+    ensures parts { IfOk result (λ room. All (λ part. part.lines.room ≡ each) room.parts.items) }
     ensures none { IfOk result (λ room. All (λ part. (lines_of part ≡ []) × (texts_of part ≡ [])) room.parts.items) }
 {
     let count = usize::from(callers);
     let mut rooms = Vec::with_capacity(alloc, count)?;
     let mut parts = Vec::with_capacity(alloc, count)?;
     for _ in 0..count {
-        rooms.push_reserved(LaneRoom::new(alloc, HALF_LINES / count)?);
-        parts.push_reserved(Part::new(alloc, HALF_LINES / count)?);
+        rooms.push_reserved(LaneRoom::new(alloc, each)?);
+        parts.push_reserved(Part::new(alloc, each)?);
     }
     let lanes = Vec::with_capacity(alloc, count)?;
     Ok(AllRoom {

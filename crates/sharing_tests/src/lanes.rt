@@ -165,19 +165,39 @@ fn answers_come_in_the_order_of_lines(rt: HostRuntime) -> Result<(), Fail> {
     Ok(())
 }
 
+/// Deals statuses to so many callers until no more fits, and returns how many they set.
+fn fill_and_answer<R: Threads + Wait + Sync>(
+    rt: &R,
+    alloc: Global,
+    callers: u8,
+) -> Result<usize, Fail>
+    requires { (0 < callers) × (callers ≤ MAX_CALLERS) }
+{
+    let mut block = Block::new(alloc)?;
+    let mut sink = sink(alloc)?;
+    let mut lanes = open(rt, alloc, callers, 1)?;
+    answer(rt, &mut lanes, &STATUS, 3_000, &mut block, &mut sink);
+    lanes.close();
+    let text = text(alloc, &sink)?;
+    let mut set = 0usize;
+    for answer in text.as_str().lines() {
+        if !answer.starts_with("set 0 ") {
+            return Err("another answer".into());
+        }
+        set = set.saturating_add(1);
+    }
+    Ok(set)
+}
+
+/// Up to four callers share 512 lines, and each of more has 128.
 #[test]
 fn full_lanes_are_answered(rt: HostRuntime) -> Result<(), Fail> {
-    let mut block = Block::new(rt.alloc())?;
-    let mut sink = sink(rt.alloc())?;
-    let mut lanes = open(&rt, rt.alloc(), 3, 1)?;
-    answer(&rt, &mut lanes, &STATUS, 2_000, &mut block, &mut sink);
-    lanes.close();
-    let text = text(rt.alloc(), &sink)?;
-    let count = text.as_str().lines().count();
-    assert!(rt; count > 500 && count % 3 == 0, "{count}");
-    for answer in text.as_str().lines() {
-        assert!(rt; answer.starts_with("set 0 "));
-    }
+    let alloc = rt.alloc();
+    assert_eq!(rt; fill_and_answer(&rt, alloc, 1)?, 512);
+    assert_eq!(rt; fill_and_answer(&rt, alloc, 3)?, 510);
+    assert_eq!(rt; fill_and_answer(&rt, alloc, 4)?, 512);
+    assert_eq!(rt; fill_and_answer(&rt, alloc, 5)?, 640);
+    assert_eq!(rt; fill_and_answer(&rt, alloc, 16)?, 2_048);
     Ok(())
 }
 
@@ -265,19 +285,20 @@ fn callers_load_what_one_does(rt: HostRuntime) -> Result<(), Fail> {
     Ok(())
 }
 
-/// Of two bad journals that are loaded at once the first is named. The others are migrated, and the bad ones unchanged.
-#[test]
-fn callers_name_the_first_bad_journal(rt: HostRuntime) -> Result<(), Fail> {
-    let alloc = rt.alloc();
-    let mut olds = empty_stores(alloc, 4)?;
+/// Loads seven journals, of which two are bad, by so many callers. The first bad one has to be named, the others
+/// migrated, and the bad ones unchanged.
+fn name_first_bad<R: Threads + Sync>(rt: &R, alloc: Global, callers: u8) -> Result<(), Fail>
+    requires { (0 < callers) × (callers ≤ MAX_CALLERS) }
+{
+    let mut olds = empty_stores(alloc, 7)?;
     let mut stores = Vec::new(alloc);
-    for text in ["", "v2\nx\n", "x\n", ""] {
+    for text in ["", "v2\n", "", "v2\nx\n", "", "x\n", ""] {
         stores.push(store(alloc, text, &[])?)?;
     }
-    match load(&rt, alloc, 4, 4, &mut olds, stores)? {
+    match load(rt, alloc, callers, 7, &mut olds, stores)? {
         Ok(lanes) => {
             lanes.close();
-            Err("no lanes".into())
+            Err("no journal is named".into())
         }
         Err(
             HostBack {
@@ -286,12 +307,26 @@ fn callers_name_the_first_bad_journal(rt: HostRuntime) -> Result<(), Fail> {
                 stores,
             },
         ) => {
-            assert!(rt; fault == LoadFault::BadLine(2) && shard == 1);
-            assert_eq!(rt; stores.len(), 4);
-            for (store, len) in stores.as_slice().iter().zip([3u64, 5, 2, 3]) {
-                assert_eq!(rt; store.len(), len);
+            if fault != LoadFault::BadLine(2) || shard != 3 || stores.len() != 7 {
+                return Err("another journal is named".into());
+            }
+            for (store, len) in stores.as_slice().iter().zip([3u64, 3, 3, 5, 3, 2, 3]) {
+                if store.len() != len {
+                    return Err("a store has another length".into());
+                }
             }
             Ok(())
         }
     }
+}
+
+/// Fewer callers than shards, as many, and more.
+#[test]
+fn callers_name_the_first_bad_journal(rt: HostRuntime) -> Result<(), Fail> {
+    let alloc = rt.alloc();
+    name_first_bad(&rt, alloc, 1)?;
+    name_first_bad(&rt, alloc, 2)?;
+    name_first_bad(&rt, alloc, 3)?;
+    name_first_bad(&rt, alloc, 7)?;
+    name_first_bad(&rt, alloc, 16)
 }

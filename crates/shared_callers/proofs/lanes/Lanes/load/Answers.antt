@@ -1,5 +1,6 @@
 -- The lanes begin without lines, or the stores come back.
-use Rattle.std.proofs.Common.{◌≡◌, ◌*◌, ◌/◌, ◌<◌, ◌≤◌, All, length, vec_len, inl, rules, sym, subst, ap, ◌∙◌}
+use Rattle.std.proofs.Common.{◌≡◌, ◌*◌, ◌<◌, ◌≤◌, length, vec_len, inl, rules, sym, subst, ap, ◌∙◌}
+use Rattle.std.proofs.Math.Nat.{one-le-mul}
 use Rattle.shared_shards.specs.ShardSeats.{opening_in}
 use Rattle.host_loading.proofs.Loads.{come-together, none-loaded, none-read}
 use Rattle.shared_callers.specs.Parts.{rooms_of}
@@ -8,7 +9,7 @@ use Rattle.shared_callers.specs.declared.lane.Lane.{Lane}
 use Rattle.shared_callers.specs.declared.part.Part.{Part}
 use Rattle.shared_callers.proofs.Lists.{maps-alike}
 use Rattle.shared_callers.proofs.Opening.{opened-plain}
-use Rattle.shared_callers.proofs.Seating.{seated-none, new-dealt, room-some, room-most}
+use Rattle.shared_callers.proofs.Seating.{seated-none, new-dealt}
 use Rattle.shared_callers.proofs.lanes.Lanes.load.Goals as goal
 
 pub returns-in_default-clause-stopped : goal.returns-in_default-clause-stopped
@@ -27,15 +28,10 @@ seat_all-lanes-requires-clause-first g c =
     let first = c.in-Ok-load_together.ensures.pass in
     seated-none made.0 made.1 first.free first.claims_are first.logs_are
 
-pub new-requires-clause-room : goal.new-requires-clause-room
-new-requires-clause-room g c =
-    let count : c.len-each.result ≡ c.args.callers = search rules in
-    subst (λ n. All (λ (part : Part). part.lines.room ≡ HALF_LINES / n) c.in-Ok.field-0.parts.items) (sym count) c.in-Ok.ensures.parts
-
 pub new-requires-clause-few : goal.new-requires-clause-few
 new-requires-clause-few g c =
-    let long : c.len-each.result ≡ vec_len c.in-Ok.field-0.parts = search rules in
-    subst (λ n. n * (HALF_LINES / c.len-each.result) ≤ HALF_LINES) long (room-most HALF_LINES c.len-each.result)
+    let long : c.from.result ≡ vec_len c.in-Ok.field-0.parts = search rules in
+    subst (λ n. n * c.lines_each-each.result ≤ HALF_LINES) long c.lines_each-each.ensures.most
 
 pub invariant_of-result-clause-plain : goal.invariant_of-result-clause-plain
 invariant_of-result-clause-plain g c =
@@ -44,19 +40,15 @@ invariant_of-result-clause-plain g c =
 
 pub invariant_of-result-clause-some_room : goal.invariant_of-result-clause-some_room
 invariant_of-result-clause-some_room g c =
-    let long : c.len-each.result ≡ vec_len c.in-Ok.field-0.parts = search rules in
-    let some : 0 < c.len-each.result = search rules in
-    let few : c.len-each.result ≤ HALF_LINES = search rules in
-    let room : 0 < vec_len c.in-Ok.field-0.parts * (HALF_LINES / c.len-each.result) =
-    subst (λ n. 0 < n * (HALF_LINES / c.len-each.result)) long (room-some HALF_LINES c.len-each.result some few) in
-    subst (λ n. 0 < n) (sym c.new.ensures.parts.1) room
+    let some : 0 < vec_len c.in-Ok.field-0.parts = search rules in
+    subst (λ n. 0 < n) (sym c.new.ensures.parts.1) (one-le-mul some (search rules))
 
 pub invariant_of-result-clause-rooms : goal.invariant_of-result-clause-rooms
 invariant_of-result-clause-rooms g c =
     let lanes = c.seat_all-lanes.result in
     let long : length lanes.items ≡ length c.in-Ok.field-0.parts.items = search rules in
-    maps-alike (λ (lane : Lane). lane.lines.room) (λ (part : Part). part.lines.room) lanes.items c.in-Ok.field-0.parts.items (HALF_LINES / c.args.callers) long
-    (c.seat_all-lanes.ensures.room (HALF_LINES / c.args.callers) c.in-Ok.ensures.count) c.in-Ok.ensures.parts
+    maps-alike (λ (lane : Lane). lane.lines.room) (λ (part : Part). part.lines.room) lanes.items c.in-Ok.field-0.parts.items c.lines_each-each.result long
+    (c.seat_all-lanes.ensures.room c.lines_each-each.result c.in-Ok.ensures.count) c.in-Ok.ensures.parts
     ∙ ap rooms_of (sym c.new.ensures.parts.0)
 
 pub returns-clause-loaded : goal.returns-clause-loaded
