@@ -1,36 +1,41 @@
--- Feeding lines to a standby, one line more and to each end.
+-- Lines of a feed, read ahead and taken: one line more, and each end.
 use Rattle.std.proofs.Common.{◌≡◌, ℕ, ◌+◌, Bool, false, List, [], ◌∷◌, ◌++◌, length, map, Option, None, Some, Ok, Err, Result}
-use Rattle.std.proofs.Common.{refl, sym, ap, subst, ◌∙◌, arith, append-nil}
+use Rattle.std.proofs.Common.{refl, sym, ap, subst, ◌∙◌, arith, append-nil, append_assoc}
 use Rattle.std.proofs.lemmas.List.{length-append, map-append}
 use Rattle.std.proofs.lemmas.Bool.{true≢false}
-use Rattle.std.specs.List.{flat_map}
+use Rattle.std.specs.List.{AllByRecursion, AllZip, flat_map}
 use Rattle.std.specs.Io.KnownBytes.{Consumes, IsAtEnd}
 use Rattle.std.proofs.KnownBytes.{Consumes-nil, Consumes-trans}
 use Rattle.issuer_base.specs.declared.entry.Entry.{Entry}
 use Rattle.issuer_base.specs.declared.outside.store.Store.{Ghosts}
 use Rattle.issuer_base.specs.Tells.{Tells}
 use Rattle.issuer_base.proofs.ManyCalls.{Tells-whole}
+use Rattle.issuer_base.specs.declared.limits.TheConstants.{KEPT_BYTES}
 use Rattle.issuer_setup.specs.IssuerSetup.{Setup}
-use Rattle.line_reader.specs.Lines.{IsLinesAndRest, ended, lines}
+use Rattle.line_reader.specs.Lines.{BeginsWithLines, IsLinesAndRest, IsUnbroken, ended, lines}
 use Rattle.line_reader.specs.Reading.{Reading, HasGivenLines, IsWithinLimits, StaysWithinLimits, unread, kept}
 use Rattle.line_reader.specs.NextLine.{GivesLine, GivesRest, ReachesEnd, StopsAtFault, StopsAtLimit}
-use Rattle.line_reader.proofs.LineLaws.{BeginsWithLines-given, flat_map-ended_push, length-begins}
+use Rattle.line_reader.proofs.LineLaws.{BeginsWithLines-given, IsLinesAndRest-same, length-begins}
 use Rattle.line_reader.proofs.WholeLines.{HasGivenLines-unread, HasGivenLines-line, IsLinesAndRest-rest}
 use Rattle.line_reader.proofs.WholeLines.{IsLinesAndRest-end, IsLinesAndRest-fault, PassesLimit-stopped}
 use Rattle.line_reader.proofs.WholeLines.{lines-end_reached, lines-rest_given}
 use Rattle.line_blocks.proofs.InputFronts.{front-read}
 use Rattle.host_loading.specs.Hosts.{AreShards}
 use Rattle.shard_book.specs.declared.shard.Shard.{Shard}
+use Rattle.standby_node.specs.declared.feed_lines.FeedLines.{FeedLines}
 use Rattle.standby_node.specs.declared.line.FeedFault.{FeedFault}
 use Rattle.standby_node.specs.declared.line.FeedFault.TheVariants.{BadFeed as BadLine, StoreFault as StoreFails}
 use Rattle.standby_node.specs.declared.standby.Standby.{Standby}
-use Rattle.standby_node.specs.Standing.{Feeds, HasTaken, Hold, IsInHand, LeavesBetween, shards_in}
-use Rattle.standby_node.specs.Streams.{StopsAt, TakesLines}
-use Rattle.standby_node.proofs.Shards.{leaves-same, leaves-then}
-use Rattle.line_serving.specs.Following.{FollowsFeed, HasInHand, TakesFeed, WritesCounts, in_doubt_after, write_failed}
+use Rattle.standby_node.specs.ReadLines.{AreAhead, IsNoneAhead, IsReadAs, IsReady}
+use Rattle.standby_node.specs.Standing.{Feeds, HasTaken, Hold, IsInHand, KeepsShards, LeavesBetween, shards_in}
+use Rattle.standby_node.specs.Streams.{TakesLines}
+use Rattle.standby_node.proofs.Shards.{leaves-same, leaves-then, shards-then}
+use Rattle.line_serving.specs.Following.{AreWithinLimits, FollowsFeed, HasInHand, HasLines, ReadsOn, TakesFeed, WritesCounts}
+use Rattle.line_serving.specs.Following.{MayWait, ended_by, fault_of, in_doubt_after, stopped_by, write_failed}
 use Rattle.line_serving.specs.declared.follower.Followed.{Followed}
 use Rattle.line_serving.specs.declared.follower.Followed.TheVariants.{All, ReadFault, WriteFault, TooLong, BadFeed, StoreFault}
-use Rattle.line_serving.proofs.KeptLines.{kept_text, stops_at_record-read, stops_badly-read, takes-read, within-given}
+use Rattle.line_serving.proofs.KeptLines.{kept-unbroken, kept_text, stops_at_record-read, stops_badly-read, takes-read}
+use Rattle.line_serving.proofs.KeptLines.{within-given}
 
 -- no store failed
 abbrev pub HasNoStore : Followed → Type 0
@@ -81,61 +86,148 @@ lines-more was mid now old new so_far gives = record {
   given = HasGivenLines-line mid now old new so_far.read so_far.whole so_far.given gives;
 }
 
-kept_text-more : (lines : List (List ℕ)) (line in_hand : List ℕ) → in_hand ≡ kept line
-    → kept_text lines ++ ended in_hand ≡ kept_text (lines ++ line ∷ [])
-kept_text-more lines line in_hand same =
-    ap (λ (l : List ℕ). kept_text lines ++ ended l) same
-    ∙ sym (flat_map-ended_push (map kept lines) (kept line))
-    ∙ ap (flat_map ended) (sym (map-append kept lines (line ∷ [])))
+-- the line in hand has no newline
+pub line-unbroken : (was now : Option (List ℕ)) (old in_hand : Reading) → GivesLine was now old in_hand
+    → IsUnbroken in_hand.line
+line-unbroken was now old in_hand gives =
+    subst IsUnbroken (sym gives.counted.in_hand) (kept-unbroken KEPT_BYTES gives.line gives.unbroken)
 
--- a line at which a stream stops stands there with more behind it too
-stops_at-more : (issuer : Setup) (opening histories : List (List Entry)) (stream more : List ℕ) (number : ℕ) (line : List ℕ)
-    → StopsAt issuer opening stream number line histories
-    → StopsAt issuer opening (stream ++ more) number line histories
-stops_at-more issuer opening histories stream more number line stops = record {
-  before = stops.before;
-  ahead = stops.ahead ++ more;
-  begins = BeginsWithLines-given stream (stops.before ++ line ∷ []) stops.ahead more stops.begins;
-  taken = stops.taken;
-  number_is = stops.number_is;
+kept-more : (lines : List (List ℕ)) (line in_hand : List ℕ) → in_hand ≡ kept line
+    → map kept lines ++ in_hand ∷ [] ≡ map kept (lines ++ line ∷ [])
+kept-more lines line in_hand same =
+    ap (λ (l : List ℕ). map kept lines ++ l ∷ []) same ∙ sym (map-append kept lines (line ∷ []))
+
+each-then : (lines more : List (List ℕ)) → AllByRecursion IsUnbroken lines → AllByRecursion IsUnbroken more
+    → AllByRecursion IsUnbroken (lines ++ more)
+each-then [] more each others = others
+each-then (line ∷ lines) more each others = (each.0, each-then lines more each.1 others)
+
+-- ---- lines that wait
+
+-- what taking the lines that wait does
+abbrev pub TakesAhead : {S : Type 0} {G : Ghosts S} (issuer : Setup) (ahead : FeedLines) (old : Standby S G)
+    (result : Result (Unit {0}) FeedFault) (new : Standby S G) → Type 0
+TakesAhead issuer ahead old result new =
+    (in_doubt : ℕ → Bool) (opening histories : List (List Entry)) (stream : List ℕ) (lines : List (List ℕ))
+    → (was : HasTaken issuer in_doubt opening stream old histories) → AreAhead histories lines ahead
+    → (after : List (List Entry))
+    × Feeds issuer in_doubt opening (flat_map ended (was.taken.lines ++ lines)) result new after
+    × LeavesBetween issuer histories after (shards_in old) (shards_in new)
+
+none-ahead : (histories : List (List Entry)) (ahead : FeedLines) → IsNoneAhead ahead → AreAhead histories [] ahead
+none-ahead histories ahead none_waits = record {
+  whole = tt;
+  read = subst (AllZip (IsReadAs histories) []) (sym none_waits.no_lines) tt;
 }
 
--- so does a fault
-pub feeds-more : {S : Type 0} {G : Ghosts S} (issuer : Setup) (in_doubt : ℕ → Bool) (opening : List (List Entry))
-    (stream more : List ℕ) (fault : FeedFault) (node : Standby S G) (after : List (List Entry))
-    → Feeds issuer in_doubt opening stream (Err fault) node after
-    → Feeds issuer in_doubt opening (stream ++ more) (Err fault) node after
-feeds-more issuer in_doubt opening stream more (BadLine number) node after (stops, hold) = (
-  record {
-    line = stops.line;
-    stops = stops_at-more issuer opening after stream more number stops.line stops.stops;
-    bad = stops.bad;
-  },
-  hold,
-)
-feeds-more issuer in_doubt opening stream more (StoreFails shard) node after stops = record {
-  number = stops.number;
-  line = stops.line;
-  history = stops.history;
-  entry = stops.entry;
-  stops = stops_at-more issuer opening after stream more stops.number stops.line stops.stops;
-  next = stops.next;
-  hold = stops.hold;
-  in_hand = stops.in_hand;
-}
+pub waits-none : (issuer : Setup) (ahead : FeedLines) → IsNoneAhead ahead → MayWait issuer ahead
+waits-none issuer ahead none_waits =
+    let count = ap length none_waits.no_lines in
+    record {
+      ready =
+          subst (λ read. AllZip (IsReady issuer) read ahead.found.items) (sym none_waits.no_lines)
+          (subst (AllZip (IsReady issuer) []) (sym none_waits.none_found) tt);
+      room = omega (arith, count);
+    }
+
+module _ {S : Type 0} {G : Ghosts S} (issuer : Setup) (opening : List (List Entry)) where
+  -- no line was read
+  has-none : (node : Standby S G) (ahead : FeedLines) → HasTaken issuer none opening [] node opening → IsNoneAhead ahead
+      → HasLines issuer opening [] ahead node opening
+  has-none node ahead opened none_waits =
+      let parts = IsLinesAndRest-same [] opened.taken.lines [] opened.taken.rest [] opened.taken.split
+      (record { begins = record { joined = refl; each = tt }; unbroken = tt }) in
+      record {
+        stream = [];
+        has_taken = opened;
+        waiting = [];
+        are_ahead = none-ahead opening ahead none_waits;
+        lines_are = sym (ap (λ (ls : List (List ℕ)). ls ++ []) parts.0);
+      }
+
+  module _ (lines : List (List ℕ)) (ahead : FeedLines) (old : Standby S G) (histories : List (List Entry))
+      (has : HasLines issuer opening lines ahead old histories) where
+    has-unbroken : AllByRecursion IsUnbroken lines
+    has-unbroken =
+        subst (AllByRecursion IsUnbroken) (sym has.lines_are)
+        (each-then has.has_taken.taken.lines has.waiting has.has_taken.taken.split.begins.each has.are_ahead.whole)
+
+    -- all that wait are taken
+    has-taken : (result : Result (Unit {0}) FeedFault) (new : Standby S G) → TakesAhead issuer ahead old result new
+        → (after : List (List Entry)) × Feeds issuer none opening (flat_map ended lines) result new after
+        × LeavesBetween issuer histories after (shards_in old) (shards_in new)
+    has-taken result new takes =
+        let it = takes none opening histories has.stream has.waiting has.has_taken has.are_ahead in (
+          it.0,
+          subst (λ (ls : List (List ℕ)). Feeds issuer none opening (flat_map ended ls) result new it.0) (sym has.lines_are)
+              it.1,
+          it.2,
+        )
+
+    -- so none waits, or the lines have a fault
+    has-read : (result : Result (Unit {0}) FeedFault) (new_ahead : FeedLines) (new : Standby S G)
+        (after : List (List Entry)) → IsNoneAhead new_ahead → Feeds issuer none opening (flat_map ended lines) result new after
+        → ReadsOn issuer opening lines result new_ahead new after
+    has-read (Ok done) new_ahead new after none_waits taken =
+        let parts = IsLinesAndRest-same (flat_map ended lines) taken.taken.lines lines taken.taken.rest [] taken.taken.split
+        (record { begins = record { joined = sym (append-nil (flat_map ended lines)); each = has-unbroken }; unbroken = tt }) in
+        record {
+          stream = flat_map ended lines;
+          has_taken = taken;
+          waiting = [];
+          are_ahead = none-ahead after new_ahead none_waits;
+          lines_are = sym (append-nil taken.taken.lines ∙ parts.0);
+        }
+    has-read (Err fault) new_ahead new after none_waits feeds = feeds
+
+    -- another waits
+    pub has-more : (line shown : List ℕ) (new_ahead : FeedLines) → shown ≡ line
+        → ((in_doubt : ℕ → Bool) (histories : List (List Entry)) (lines : List (List ℕ))
+        → Hold issuer in_doubt (shards_in old) histories → AreAhead histories lines ahead
+        → AreAhead histories (lines ++ shown ∷ []) new_ahead)
+        → HasLines issuer opening (lines ++ line ∷ []) new_ahead old histories
+    has-more line shown new_ahead same waits =
+        subst (λ (l : List ℕ). HasLines issuer opening (lines ++ l ∷ []) new_ahead old histories) same
+        (record {
+          stream = has.stream;
+          has_taken = has.has_taken;
+          waiting = has.waiting ++ shown ∷ [];
+          are_ahead = waits none histories has.waiting has.has_taken.hold has.are_ahead;
+          lines_are =
+              ap (λ (ls : List (List ℕ)). ls ++ shown ∷ []) has.lines_are
+              ∙ append_assoc has.has_taken.taken.lines has.waiting (shown ∷ []);
+        })
+
+  -- all were taken, and none waits
+  pub reads-on : (lines : List (List ℕ)) (ahead : FeedLines) (old : Standby S G) (histories : List (List Entry))
+      → HasLines issuer opening lines ahead old histories → (result : Result (Unit {0}) FeedFault) (new_ahead : FeedLines)
+      (new : Standby S G) → IsNoneAhead new_ahead → TakesAhead issuer ahead old result new
+      → (after : List (List Entry)) × ReadsOn issuer opening lines result new_ahead new after
+      × LeavesBetween issuer histories after (shards_in old) (shards_in new)
+  reads-on lines ahead old histories has result new_ahead new none_waits takes =
+      let it = has-taken lines ahead old histories has result new takes in
+      (it.0, has-read lines ahead old histories has result new_ahead new it.0 none_waits it.1, it.2)
+
+-- ---- a feed
 
 module _ {S : Type 0} {G : Ghosts S} (issuer : Setup) (first : Standby S G) (was : Option (List ℕ)) where
-  -- the lines that were returned were fed, truncated
-  pub record HasFedLines (now : Option (List ℕ)) (reader : Reading) (node : Standby S G) : Type 0 where
+  -- the lines that were returned were read ahead, truncated, and the first of them taken
+  pub record HasFedLines (now : Option (List ℕ)) (reader : Reading) (ahead : FeedLines) (node : Standby S G)
+      : Type 0 where
     pub lines : HasReadLines was now reader
     pub fed : (opening : List (List Entry)) → HasTaken issuer none opening [] first opening
-        → (histories : List (List Entry)) × HasTaken issuer none opening (kept_text lines.whole) node histories
+        → (histories : List (List Entry)) × HasLines issuer opening (map kept lines.whole) ahead node histories
         × LeavesBetween issuer opening histories (shards_in first) (shards_in node)
 
-  pub fed-none : (reader : Reading) → reader ≡ unread → AreShards issuer (shards_in first) → HasFedLines was reader first
-  fed-none reader new are = record {
+  pub fed-none : (reader : Reading) (ahead : FeedLines) → reader ≡ unread → IsNoneAhead ahead
+      → AreShards issuer (shards_in first) → HasFedLines was reader ahead first
+  fed-none reader ahead new none_waits are = record {
     lines = lines-none was reader new;
-    fed = λ opening opened. (opening, opened, leaves-same issuer (shards_in first) are none opening opened.hold);
+    fed = λ opening opened. (
+      opening,
+      has-none issuer opening first ahead opened none_waits,
+      leaves-same issuer (shards_in first) are none opening opened.hold,
+    );
   }
 
   -- taking the feed ended so
@@ -144,70 +236,48 @@ module _ {S : Type 0} {G : Ghosts S} (issuer : Setup) (first : Standby S G) (was
       (opening : List (List Entry)) → HasTaken issuer none opening [] first opening
       → (histories : List (List Entry)) × FollowsFeed issuer opening was now first node followed histories
 
-  module _ (mid now : Option (List ℕ)) (old in_hand : Reading) (node new : Standby S G) (so_far : HasFedLines mid old node)
-      (gives : GivesLine mid now old in_hand) (line : List ℕ) (line_is : line ≡ in_hand.line) where
-    -- the next line was fed, truncated, with this result
-    abbrev pub LineFed : Result (Unit {0}) FeedFault → Type 0
-    LineFed result =
-        (in_doubt : ℕ → Bool) (opening histories : List (List Entry)) (stream : List ℕ)
-        → HasTaken issuer in_doubt opening stream node histories
-        → (after : List (List Entry)) × Feeds issuer in_doubt opening (stream ++ ended line) result new after
-        × LeavesBetween issuer histories after (shards_in node) (shards_in new)
+  -- these lines were taken, truncated, with this result
+  abbrev LinesFed : List (List ℕ) → Result (Unit {0}) FeedFault → Standby S G → Type 0
+  LinesFed whole result new =
+      (opening : List (List Entry)) → HasTaken issuer none opening [] first opening
+      → (after : List (List Entry)) × Feeds issuer none opening (kept_text whole) result new after
+      × LeavesBetween issuer opening after (shards_in first) (shards_in new)
 
-    abbrev more : HasReadLines was now in_hand
-    more = lines-more was mid now old in_hand so_far.lines gives
+  -- ---- a fault of its lines
 
-    feeds-line : (result : Result (Unit {0}) FeedFault) → LineFed result → (opening : List (List Entry))
-        → HasTaken issuer none opening [] first opening
-        → (after : List (List Entry)) × Feeds issuer none opening (kept_text more.whole) result new after
-        × LeavesBetween issuer opening after (shards_in first) (shards_in new)
-    feeds-line result fed opening opened =
-        let so = so_far.fed opening opened in
-        let it = fed none opening so.0 (kept_text so_far.lines.whole) so.1 in (
-          it.0,
-          subst (λ (stream : List ℕ). Feeds issuer none opening stream result new it.0)
-              (kept_text-more so_far.lines.whole gives.line line (line_is ∙ gives.counted.in_hand)) it.1,
-          leaves-then issuer opening so.0 it.0 (shards_in first) (shards_in node) (shards_in new) none so.1.hold so.2 it.2,
-        )
-
-    pub fed-more : LineFed (Ok tt) → HasFedLines now in_hand new
-    fed-more fed = record { lines = more; fed = λ opening opened. feeds-line (Ok tt) fed opening opened }
-
-    -- the line is bad
-    pub follows-bad : (fault : FeedFault) (number : ℕ) → fault ≡ BadLine number → LineFed (Err fault)
-        → Follows now new (BadFeed number)
-    follows-bad fault number is fed opening opened =
-        let it = feeds-line (Err (BadLine number)) (subst (λ (f : FeedFault). LineFed (Err f)) is fed) opening opened in
-        let parts = front-read was now more.read more.consumed in (
+  module _ (now : Option (List ℕ)) (read : List ℕ) (whole : List (List ℕ)) (ahead : List ℕ)
+      (consumed : Consumes was now read) (begins : BeginsWithLines read whole ahead) (within : AreWithinLimits whole)
+      (new : Standby S G) where
+    -- a line is bad
+    follows-bad : (number : ℕ) → LinesFed whole (Err (BadLine number)) new → Follows now new (BadFeed number)
+    follows-bad number fed opening opened =
+        let it = fed opening opened in
+        let parts = front-read was now read consumed in (
           it.0,
           record {
-            file = more.read ++ parts.rest;
-            read = more.read;
+            file = read ++ parts.rest;
+            read = read;
             content = parts.content;
             was_read = record { unread = parts.rest; split = refl; tells = parts.left };
-            takes =
-                stops_badly-read issuer opening it.0 more.read more.whole in_hand.ahead more.given.begins
-                (within-given in_hand more.read more.whole more.given) number it.1.0;
+            takes = stops_badly-read issuer opening it.0 read whole ahead begins within number it.1.0;
             hold = it.1.1;
             in_hand = tt;
             leaves = it.2;
           },
         )
 
-    -- a store failed at its record
-    pub follows-failed : (fault : FeedFault) (shard : ℕ) → fault ≡ StoreFails shard → LineFed (Err fault)
-        → Follows now new (StoreFault shard)
-    follows-failed fault shard is fed opening opened =
-        let it = feeds-line (Err (StoreFails shard)) (subst (λ (f : FeedFault). LineFed (Err f)) is fed) opening opened in
+    -- a store failed at the record of one
+    follows-failed : (shard : ℕ) → LinesFed whole (Err (StoreFails shard)) new → Follows now new (StoreFault shard)
+    follows-failed shard fed opening opened =
+        let it = fed opening opened in
         let at = it.1 in
-        let its = stops_at_record-read issuer opening it.0 more.read more.whole in_hand.ahead more.given.begins
-        (within-given in_hand more.read more.whole more.given) at.number at.line shard at.history at.entry at.stops
-        at.next in
-        let parts = front-read was now more.read more.consumed in (
+        let its = stops_at_record-read issuer opening it.0 read whole ahead begins within at.number at.line shard at.history
+        at.entry at.stops at.next in
+        let parts = front-read was now read consumed in (
           it.0,
           record {
-            file = more.read ++ parts.rest;
-            read = more.read;
+            file = read ++ parts.rest;
+            read = read;
             content = parts.content;
             was_read = record { unread = parts.rest; split = refl; tells = parts.left };
             takes = its.0;
@@ -219,21 +289,94 @@ module _ {S : Type 0} {G : Ghosts S} (issuer : Setup) (first : Standby S G) (was
           },
         )
 
+    follows-stopped : (fault : FeedFault) → LinesFed whole (Err fault) new → Follows now new (stopped_by fault)
+    follows-stopped (BadLine number) fed = follows-bad number fed
+    follows-stopped (StoreFails shard) fed = follows-failed shard fed
+
+  -- ---- a line more
+
+  module _ (mid now : Option (List ℕ)) (old in_hand : Reading) (ahead new_ahead : FeedLines) (node new : Standby S G)
+      (so_far : HasFedLines mid old ahead node) (gives : GivesLine mid now old in_hand) where
+    -- the line in hand was read ahead, with this result
+    abbrev pub LineRead : Result (Unit {0}) FeedFault → Type 0
+    LineRead result =
+        (opening histories : List (List Entry)) (lines : List (List ℕ)) → HasLines issuer opening lines ahead node histories
+        → (after : List (List Entry)) × ReadsOn issuer opening (lines ++ in_hand.line ∷ []) result new_ahead new after
+        × LeavesBetween issuer histories after (shards_in node) (shards_in new)
+
+    abbrev more : HasReadLines was now in_hand
+    more = lines-more was mid now old in_hand so_far.lines gives
+
+    reads-line : (result : Result (Unit {0}) FeedFault) → LineRead result → (opening : List (List Entry))
+        → HasTaken issuer none opening [] first opening
+        → (after : List (List Entry)) × ReadsOn issuer opening (map kept more.whole) result new_ahead new after
+        × LeavesBetween issuer opening after (shards_in first) (shards_in new)
+    reads-line result reads opening opened =
+        let so = so_far.fed opening opened in
+        let it = reads opening so.0 (map kept so_far.lines.whole) so.1 in (
+          it.0,
+          subst (λ (ls : List (List ℕ)). ReadsOn issuer opening ls result new_ahead new it.0)
+              (kept-more so_far.lines.whole gives.line in_hand.line gives.counted.in_hand) it.1,
+          leaves-then issuer opening so.0 it.0 (shards_in first) (shards_in node) (shards_in new) none so.1.has_taken.hold
+              so.2 it.2,
+        )
+
+    pub fed-more : (reader : Reading) → reader ≡ in_hand → LineRead (Ok tt) → HasFedLines now reader new_ahead new
+    fed-more reader same reads =
+        subst (λ (r : Reading). HasFedLines now r new_ahead new) (sym same)
+        (record { lines = more; fed = λ opening opened. reads-line (Ok tt) reads opening opened })
+
+    pub fed-stopped : (fault : FeedFault) (followed : Followed) → followed ≡ stopped_by fault → LineRead (Err fault)
+        → Follows now new followed
+    fed-stopped fault followed is reads =
+        subst (λ (f : Followed). Follows now new f) (sym is)
+        (follows-stopped now more.read more.whole in_hand.ahead more.consumed more.given.begins
+        (within-given in_hand more.read more.whole more.given) new fault (reads-line (Err fault) reads))
+
   -- ---- the ends of the input
 
-  module _ (mid now : Option (List ℕ)) (old new : Reading) (node : Standby S G) (so_far : HasFedLines mid old node) where
+  module _ (mid now : Option (List ℕ)) (old new : Reading) (ahead : FeedLines) (node last : Standby S G)
+      (so_far : HasFedLines mid old ahead node) (result : Result (Unit {0}) FeedFault)
+      (taken : TakesAhead issuer ahead node result last) (outcome : Followed) where
+    all_fed : LinesFed so_far.lines.whole result last
+    all_fed opening opened =
+        let so = so_far.fed opening opened in
+        let it = has-taken issuer opening (map kept so_far.lines.whole) ahead node so.0 so.1 result last taken in (
+          it.0,
+          it.1,
+          leaves-then issuer opening so.0 it.0 (shards_in first) (shards_in node) (shards_in last) none so.1.has_taken.hold
+              so.2 it.2,
+        )
+
     -- what was read of the feed, once these bytes more were read
     module _ (given : List ℕ) (consumed : Consumes mid now given) where
       all_read : Consumes was now (so_far.lines.read ++ given)
       all_read = Consumes-trans was mid now so_far.lines.read given so_far.lines.consumed consumed
 
-      follows-part : (followed : Followed)
+      -- it ended so, unless its lines have a fault
+      ends-by : (followed : Followed) → (LinesFed so_far.lines.whole (Ok tt) last → Follows now last followed)
+          → (how : Result (Unit {0}) FeedFault) → LinesFed so_far.lines.whole how last
+          → Follows now last (ended_by how followed)
+      ends-by followed whole (Ok done) fed = whole fed
+      ends-by followed whole (Err fault) fed =
+          follows-stopped now (so_far.lines.read ++ given) so_far.lines.whole (old.ahead ++ given) all_read
+          (BeginsWithLines-given so_far.lines.read so_far.lines.whole old.ahead given so_far.lines.given.begins)
+          (within-given old so_far.lines.read so_far.lines.whole so_far.lines.given) last fault fed
+
+      ends-as : (followed : Followed) → outcome ≡ ended_by result followed
+          → (LinesFed so_far.lines.whole (Ok tt) last → Follows now last followed) → Follows now last outcome
+      ends-as followed is whole =
+          subst (λ (f : Followed). Follows now last f) (sym is) (ends-by followed whole result all_fed)
+
+      follows-part : (followed : Followed) → outcome ≡ ended_by result followed
           → ((opening histories : List (List Entry)) (file : List ℕ)
           → TakesLines issuer opening so_far.lines.whole histories
           → TakesFeed issuer opening file (so_far.lines.read ++ given) followed histories)
-          → in_doubt_after followed ≡ none → HasNoStore followed → Follows now node followed
-      follows-part followed takes doubts fails opening opened =
-          let it = so_far.fed opening opened in
+          → in_doubt_after followed ≡ none → HasNoStore followed → Follows now last outcome
+      follows-part followed is takes doubts fails =
+          ends-as followed is
+          (λ fed opening opened.
+          let it = fed opening opened in
           let read = so_far.lines.read ++ given in
           let parts = front-read was now read all_read in (
             it.0,
@@ -245,19 +388,21 @@ module _ {S : Type 0} {G : Ghosts S} (issuer : Setup) (first : Standby S G) (was
               takes = takes opening it.0 (read ++ parts.rest)
                   (takes-read issuer opening it.0 so_far.lines.read so_far.lines.whole old.ahead
                   so_far.lines.given.begins it.1.taken);
-              hold = subst (λ d. Hold issuer d (shards_in node) it.0) (sym doubts) it.1.hold;
-              in_hand = none_in_hand followed fails issuer opening (read ++ parts.rest) read it.0 _ (shards_in node);
+              hold = subst (λ d. Hold issuer d (shards_in last) it.0) (sym doubts) it.1.hold;
+              in_hand = none_in_hand followed fails issuer opening (read ++ parts.rest) read it.0 _ (shards_in last);
               leaves = it.2;
             },
-          )
+          ))
 
       -- all was read, within the limits: these lines, and this remainder
-      follows-whole : IsAtEnd now → (rest : List ℕ)
+      follows-whole : outcome ≡ ended_by result All → IsAtEnd now → (rest : List ℕ)
           → IsLinesAndRest (so_far.lines.read ++ given) so_far.lines.whole rest
           → IsWithinLimits (length (lines (so_far.lines.read ++ given))) (length (so_far.lines.read ++ given))
-          → Follows now node All
-      follows-whole end rest parted within opening opened =
-          let it = so_far.fed opening opened in
+          → Follows now last outcome
+      follows-whole is end rest parted within =
+          ends-as All is
+          (λ fed opening opened.
+          let it = fed opening opened in
           let file = so_far.lines.read ++ given in (
             it.0,
             record {
@@ -283,13 +428,13 @@ module _ {S : Type 0} {G : Ghosts S} (issuer : Setup) (first : Standby S G) (was
               in_hand = tt;
               leaves = it.2;
             },
-          )
+          ))
 
     -- the input failed
-    pub follows-fault : StopsAtFault mid now old new → Follows now node ReadFault
-    follows-fault stops =
+    pub follows-fault : StopsAtFault mid now old new → outcome ≡ ended_by result ReadFault → Follows now last outcome
+    follows-fault stops is =
         let r = so_far.lines in
-        follows-part stops.given stops.consumed ReadFault
+        follows-part stops.given stops.consumed ReadFault is
         (λ opening histories file taken. record {
           lines = r.whole;
           which = record {
@@ -307,10 +452,10 @@ module _ {S : Type 0} {G : Ghosts S} (issuer : Setup) (first : Standby S G) (was
 
     -- it goes past a limit
     pub follows-limit : StopsAtLimit mid now old new → (number : ℕ) → number ≡ old.lines + 1
-        → Follows now node (TooLong number)
-    follows-limit stops number counted =
+        → outcome ≡ ended_by result (TooLong number) → Follows now last outcome
+    follows-limit stops number counted is =
         let r = so_far.lines in
-        follows-part stops.given stops.consumed (TooLong number)
+        follows-part stops.given stops.consumed (TooLong number) is
         (λ opening histories file taken. record {
           before = r.whole;
           are_before = record {
@@ -327,13 +472,13 @@ module _ {S : Type 0} {G : Ghosts S} (issuer : Setup) (first : Standby S G) (was
         refl tt
 
     -- its last line is torn
-    pub follows-rest : GivesRest mid now old new → Follows now node All
-    follows-rest gives =
+    pub follows-rest : GivesRest mid now old new → outcome ≡ ended_by result All → Follows now last outcome
+    follows-rest gives is =
         let r = so_far.lines in
         let file = r.read ++ gives.given in
         let file_lines = lines-rest_given mid now old new r.read r.whole r.given gives in
         let parted = IsLinesAndRest-rest mid now old new r.read r.whole r.given gives in
-        follows-whole gives.given gives.consumed gives.at_end gives.line parted
+        follows-whole gives.given gives.consumed is gives.at_end gives.line parted
         (record {
           lines_within = omega (
             arith,
@@ -353,13 +498,13 @@ module _ {S : Type 0} {G : Ghosts S} (issuer : Setup) (first : Standby S G) (was
         })
 
     -- it is at its end
-    pub follows-end : ReachesEnd mid now old new → Follows now node All
-    follows-end ends =
+    pub follows-end : ReachesEnd mid now old new → outcome ≡ ended_by result All → Follows now last outcome
+    follows-end ends is =
         let r = so_far.lines in
         let file = r.read ++ ends.given in
         let file_lines = lines-end_reached mid now old new r.read r.whole r.given ends in
         let parted = IsLinesAndRest-end mid now old new r.read r.whole r.given ends in
-        follows-whole ends.given ends.consumed ends.at_end [] parted
+        follows-whole ends.given ends.consumed is ends.at_end [] parted
         (record {
           lines_within = omega (arith, ap length file_lines, r.given.lines_counted, r.given.within.lines_within);
           bytes_within = omega (
@@ -369,6 +514,37 @@ module _ {S : Type 0} {G : Ghosts S} (issuer : Setup) (first : Standby S G) (was
             r.given.within.bytes_within,
           );
         })
+
+-- ---- what is kept of the shards
+
+stopped-fault : (fault : FeedFault) → fault_of (stopped_by fault) ≡ Err fault
+stopped-fault (BadLine number) = refl
+stopped-fault (StoreFails shard) = refl
+
+ended-fault : (followed : Followed) → fault_of followed ≡ Ok tt → (result : Result (Unit {0}) FeedFault)
+    → fault_of (ended_by result followed) ≡ result
+ended-fault followed none (Ok done) = none
+ended-fault followed none (Err fault) = stopped-fault fault
+
+module _ {S : Type 0} {G : Ghosts S} (issuer : Setup) (first old new : List (Shard S G))
+    (so_far : KeepsShards issuer first (Ok tt) old) where
+  kept-then : (result : Result (Unit {0}) FeedFault) → KeepsShards issuer old result new → (outcome : Followed)
+      → fault_of outcome ≡ result → KeepsShards issuer first (fault_of outcome) new
+  kept-then result keeps outcome is =
+      subst (λ (r : Result (Unit {0}) FeedFault). KeepsShards issuer first r new) (sym is)
+      (shards-then issuer first old new result so_far keeps)
+
+  -- its lines have a fault
+  pub kept-stopped : (fault : FeedFault) → KeepsShards issuer old (Err fault) new → (outcome : Followed)
+      → outcome ≡ stopped_by fault → KeepsShards issuer first (fault_of outcome) new
+  kept-stopped fault keeps outcome is = kept-then (Err fault) keeps outcome (ap fault_of is ∙ stopped-fault fault)
+
+  -- they were taken at the end, or had a fault
+  pub kept-ended : (result : Result (Unit {0}) FeedFault) → KeepsShards issuer old result new → (followed : Followed)
+      → fault_of followed ≡ Ok tt → (outcome : Followed) → outcome ≡ ended_by result followed
+      → KeepsShards issuer first (fault_of outcome) new
+  kept-ended result keeps followed none outcome is =
+      kept-then result keeps outcome (ap fault_of is ∙ ended-fault followed none result)
 
 -- ---- what is written
 

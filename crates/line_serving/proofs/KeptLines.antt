@@ -62,7 +62,7 @@ lines-kept issuer opening histories [] same = same
 lines-kept issuer opening histories (line ∷ lines) (between, one, more) =
     (between, takes-kept issuer opening line between one, lines-kept issuer between histories lines more)
 
-kept-unbroken : (count : ℕ) (line : List ℕ) → IsUnbroken line → IsUnbroken (take count line)
+pub kept-unbroken : (count : ℕ) (line : List ℕ) → IsUnbroken line → IsUnbroken (take count line)
 kept-unbroken zero line unbroken = tt
 kept-unbroken (suc count) [] unbroken = tt
 kept-unbroken (suc count) (byte ∷ line) unbroken = (unbroken.0, kept-unbroken count line unbroken.1)

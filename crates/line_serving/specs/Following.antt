@@ -1,5 +1,5 @@
 -- What taking a feed makes of a standby's shards and writes, by how it ended.
-use Rattle.std.specs.Prelude.{◌≡◌, ℕ, Bool, ◌==◌, true, false, List, [], ◌∷◌, ◌++◌, length, Option, Result, Ok, Err}
+use Rattle.std.specs.Prelude.{◌≡◌, ℕ, ◌<◌, Bool, ◌==◌, true, false, IsTrue, List, [], ◌∷◌, ◌++◌, length, Option, Result, Ok, Err}
 use Rattle.std.specs.List.{enumerate_from, flat_map}
 use Rattle.std.specs.Io.KnownBytes.{Appends}
 use Rattle.issuer_base.specs.declared.entry.Entry.{Entry}
@@ -8,25 +8,30 @@ use Rattle.issuer_base.specs.Sink.{AppendsFront}
 use Rattle.issuer_base.specs.Tells.{Tells}
 use Rattle.answer_text.specs.CountText.{count_text}
 use Rattle.issuer_setup.specs.IssuerSetup.{Setup}
+use Rattle.line_checks.specs.declared.lines_ahead.TheConstants.{MOST_AHEAD}
 use Rattle.line_reader.specs.Lines.{ended, lines}
 use Rattle.line_reader.specs.Reading.{IsWithinLimits, unread}
 use Rattle.line_blocks.specs.Answered.{WasRead, AreWholeLines, AreLinesBefore}
+use Rattle.host_loading.specs.Hosts.{AreShards}
 use Rattle.shard_book.specs.declared.shard.Shard.{Shard}
+use Rattle.standby_node.specs.declared.feed_lines.FeedLines.{FeedLines}
 use Rattle.standby_node.specs.declared.line.FeedFault.{FeedFault}
 use Rattle.standby_node.specs.declared.line.FeedFault.TheVariants.{BadFeed as BadLine, StoreFault as StoreFails}
 use Rattle.standby_node.specs.declared.standby.Standby.{Standby}
 use Rattle.standby_node.specs.FeedLines.{IsNext}
-use Rattle.standby_node.specs.Standing.{Hold, IsInHand, LeavesBetween, shards_in}
+use Rattle.standby_node.specs.ReadLines.{AreAhead, AreReady, IsNoneAhead}
+use Rattle.standby_node.specs.Standing.{Feeds, HasTaken, Hold, IsInHand, LeavesBetween, live_in, shards_in}
 use Rattle.standby_node.specs.Streams.{StopsAt, StopsBadly, TakesLines, TakesStream}
 use Rattle.line_serving.specs.declared.follower.Followed.{Followed}
 use Rattle.line_serving.specs.declared.follower.Followed.TheVariants.{All, ReadFault, WriteFault, TooLong, BadFeed, StoreFault}
 use Rattle.line_serving.specs.declared.follower.Follower.{Follower}
 
--- it has read nothing, and no text is due
+-- it has read nothing, no text is due, and no line waits
 pub record IsNew (follower : Follower) : Type 0 where
   pub reads_first : follower.reader ≡ unread
   pub none_due : follower.block.text.items ≡ []
   pub no_lines : follower.block.lines ≡ 0
+  pub none_waits : IsNoneAhead follower.ahead
 
 -- ---- what is taken
 
@@ -119,6 +124,45 @@ abbrev pub fault_of : Followed → Result (Unit {0}) FeedFault
 fault_of (BadFeed number) = Err (BadLine number)
 fault_of (StoreFault shard) = Err (StoreFails shard)
 fault_of _ = Ok tt
+
+-- ---- lines that wait
+
+-- another line may wait
+pub record MayWait (issuer : Setup) (ahead : FeedLines) : Type 0 where
+  pub ready : AreReady issuer ahead
+  pub room : length ahead.lines.items < MOST_AHEAD
+
+-- and the standby can be fed
+pub record MayRead {S : Type 0} {G : Ghosts S} (issuer : Setup) (ahead : FeedLines) (node : Standby S G) : Type 0 where
+  pub live : IsTrue (live_in node)
+  pub shards : AreShards issuer (shards_in node)
+  pub waits : MayWait issuer ahead
+
+-- the first of these lines were taken, and the others wait. The shards hold what the first make of the opening histories
+pub record HasLines {S : Type 0} {G : Ghosts S} (issuer : Setup) (opening : List (List Entry)) (lines : List (List ℕ))
+    (ahead : FeedLines) (node : Standby S G) (histories : List (List Entry)) : Type 0 where
+  pub stream : List ℕ
+  pub has_taken : HasTaken issuer (λ number. false) opening stream node histories
+  pub waiting : List (List ℕ)
+  pub are_ahead : AreAhead histories waiting ahead
+  pub lines_are : lines ≡ has_taken.taken.lines ++ waiting
+
+-- so it is of these lines, or they have a fault
+abbrev pub ReadsOn : {S : Type 0} {G : Ghosts S} (issuer : Setup) (opening : List (List Entry)) (lines : List (List ℕ))
+    (result : Result (Unit {0}) FeedFault) → FeedLines → Standby S G → List (List Entry) → Type 0
+ReadsOn issuer opening lines (Ok done) ahead node after = HasLines issuer opening lines ahead node after
+ReadsOn issuer opening lines (Err fault) ahead node after =
+    Feeds issuer (λ number. false) opening (flat_map ended lines) (Err fault) node after
+
+-- how taking a feed ended whose lines had this fault
+abbrev pub stopped_by : FeedFault → Followed
+stopped_by (BadLine number) = BadFeed number
+stopped_by (StoreFails shard) = StoreFault shard
+
+-- and with it where they had one
+abbrev pub ended_by : Result (Unit {0}) FeedFault → Followed → Followed
+ended_by (Ok done) followed = followed
+ended_by (Err fault) followed = stopped_by fault
 
 -- ---- what is written
 

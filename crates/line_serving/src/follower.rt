@@ -1,11 +1,14 @@
-//! The lines of a feed, taken one after another, and how many records each shard has, written at the end.
-ghost use Rattle.std.specs.Prelude.{◌≡◌, ℕ, Bool, List, [], ◌++◌, true, false, IsTrue, is_err, IfOk};
+//! The lines of a feed, checked together and taken one after another, and how many records each shard has, written at the
+//! end.
+ghost use Rattle.std.specs.Prelude.{◌≡◌, ◌<◌, ℕ, List, [], ◌∷◌, ◌++◌, length, true, false, IsTrue, is_err, IfOk};
 ghost use Rattle.issuer_base.specs.OutsideFaults.{Rose, CountsFaults};
 ghost use Rattle.issuer_base.specs.Sink.{WritesAll};
 ghost use Rattle.issuer_base.specs.declared.entry.Entry.{Entry};
-ghost use Rattle.line_reader.specs.Lines.{ended};
+ghost use Rattle.line_checks.specs.declared.lines_ahead.TheConstants.{MOST_AHEAD};
+ghost use Rattle.line_reader.specs.Lines.{IsUnbroken};
 ghost use Rattle.host_loading.specs.Hosts.{AreShards};
-ghost use Rattle.standby_node.specs.Standing.{Feeds, HasTaken, Hold, KeepsNode, KeepsShards, LeavesBetween, live_in, shards_in};
+ghost use Rattle.standby_node.specs.Standing.{HasTaken, Hold, KeepsNode, KeepsShards, LeavesBetween, live_in, shards_in};
+ghost use Rattle.line_serving.specs.Following.{ended_by, stopped_by};
 
 use answer_text::{LINE_ROOM, write_count};
 use arrayvec::ArrayVec;
@@ -13,7 +16,7 @@ use issuer_base::{NoMemory, Sink, Source, Store, WriteFault};
 use issuer_setup::Issuer;
 use line_blocks::Block;
 use line_reader::{LineReader, NextLine};
-use standby_node::{FeedFault, Standby};
+use standby_node::{FeedFault, FeedLines, Standby};
 use std::alloc::Global;
 
 /// How taking a feed ended.
@@ -48,13 +51,16 @@ pub struct Follower {
     reader: LineReader,
     block: Block,
 
+    /// The lines that wait to be taken.
+    ahead: FeedLines,
+
     /// The last line that was put into the block.
     line: ArrayVec<u8, LINE_ROOM>,
 }
 
 impl Follower {
-    ghost use Rattle.line_serving.specs.Following.{FollowsFeed, IsNew, WritesCounts, counts_text, fault_of};
-    ghost use Rattle.line_serving.specs.Following.{read_failed, write_failed};
+    ghost use Rattle.line_serving.specs.Following.{FollowsFeed, HasLines, IsNew, MayRead, MayWait, ReadsOn};
+    ghost use Rattle.line_serving.specs.Following.{WritesCounts, counts_text, fault_of, read_failed, write_failed};
 
     /// All the memory that taking a feed takes.
     pub fn new(alloc: Global) -> Result<Self, NoMemory>
@@ -63,12 +69,13 @@ impl Follower {
         Ok(Follower {
             reader: LineReader::new(alloc)?,
             block: Block::new(alloc)?,
+            ahead: FeedLines::new(alloc)?,
             line: ArrayVec::new(),
         })
     }
 
-    /// Feeds the whole lines of an input to a standby, each as soon as it is read; a torn last line is dropped. At the
-    /// end of the input it writes how many records each shard has.
+    /// Feeds the whole lines of an input to a standby, before more of the input is waited for; a torn last line is
+    /// dropped. At the end of the input it writes how many records each shard has.
     pub fn follow<S: Store, I: Source, W: Sink>(
         &mut self,
         issuer: &Issuer,
@@ -120,19 +127,59 @@ impl Follower {
     {
         loop {
             match self.reader.next_line(source) {
-                NextLine::Line => match feed_line(issuer, node, self.reader.line()) {
+                NextLine::Line => match self.take_line(issuer, node) {
                     Ok(()) => {}
-                    Err(FeedFault::BadFeed(line)) => return Followed::BadFeed { line },
-                    Err(FeedFault::StoreFault(shard)) => return Followed::StoreFault { shard },
+                    Err(fault) => return stopped(fault),
                 },
-                NextLine::Rest | NextLine::End => return Followed::All,
-                NextLine::Fault => return Followed::ReadFault,
+                NextLine::Rest | NextLine::End => {
+                    let taken = node.take_lines(issuer, &mut self.ahead);
+                    return ended(taken, Followed::All);
+                }
+                NextLine::Fault => {
+                    let taken = node.take_lines(issuer, &mut self.ahead);
+                    return ended(taken, Followed::ReadFault);
+                }
                 NextLine::TooLong => {
                     let line = u64::from(self.reader.number()) + 1;
-                    return Followed::TooLong { line };
+                    let taken = node.take_lines(issuer, &mut self.ahead);
+                    return ended(taken, Followed::TooLong { line });
                 }
             }
         }
+    }
+
+    /// Reads the line in hand ahead. All lines that wait are taken, once they are as many as are checked together, and
+    /// before more of the input is waited for.
+    fn take_line<S: Store>(
+        &mut self,
+        issuer: &Issuer,
+        node: &mut Standby<S>,
+    ) -> Result<(), FeedFault>
+        requires may { MayRead issuer.now self.old.ahead node.old }
+        requires line { IsUnbroken self.old.reader.line }
+        ensures taken { (opening histories : List (List Entry)) (lines : List (List ℕ))
+            → HasLines issuer.now opening lines self.old.ahead node.old histories
+            → (after : List (List Entry))
+            × ReadsOn issuer.now opening (lines ++ self.old.reader.line ∷ []) result self.new.ahead node.new after
+            × LeavesBetween issuer.now histories after (shards_in node.old) (shards_in node.new) }
+        ensures kept { KeepsNode issuer.now node.old result node.new }
+        ensures room { MayWait issuer.now self.new.ahead }
+        ensures same { (self.new.reader ≡ self.old.reader) × (self.new.block ≡ self.old.block) }
+    {
+        node.read_ahead(issuer, self.reader.line(), &mut self.ahead);
+        if self.is_due() {
+            node.take_lines(issuer, &mut self.ahead)
+        } else {
+            Ok(())
+        }
+    }
+
+    /// Whether the lines that wait are to be taken before more is read: no other line may wait, or no whole line is in
+    /// hand.
+    fn is_due(&self) -> bool
+        ensures { result ≡ false → length self.now.ahead.lines.items < MOST_AHEAD }
+    {
+        self.ahead.is_full() || !self.reader.has_line()
     }
 
     /// Writes how many records each shard has.
@@ -156,19 +203,22 @@ impl Follower {
     }
 }
 
-/// Feeds a line and its newline to a standby.
-fn feed_line<S: Store>(issuer: &Issuer, node: &mut Standby<S>, line: &[u8]) -> Result<(), FeedFault>
-    requires live { IsTrue (live_in node.old) }
-    requires shards { AreShards issuer.now (shards_in node.old) }
-    ensures fed { (in_doubt : ℕ → Bool) (opening histories : List (List Entry)) (stream : List ℕ)
-        → HasTaken issuer.now in_doubt opening stream node.old histories
-        → (after : List (List Entry))
-        × Feeds issuer.now in_doubt opening (stream ++ ended line.now) result node.new after
-        × LeavesBetween issuer.now histories after (shards_in node.old) (shards_in node.new) }
-    ensures kept { KeepsNode issuer.now node.old result node.new }
+/// How taking a feed ended: as reading it did, unless its lines had a fault.
+fn ended(taken: Result<(), FeedFault>, followed: Followed) -> Followed
+    ensures { result ≡ ended_by taken followed }
 {
-    match node.feed(issuer, line) {
-        Ok(()) => node.feed(issuer, b"\n"),
-        Err(fault) => Err(fault),
+    match taken {
+        Ok(()) => followed,
+        Err(fault) => stopped(fault),
+    }
+}
+
+/// How taking a feed ended whose lines had this fault.
+fn stopped(fault: FeedFault) -> Followed
+    ensures { result ≡ stopped_by fault }
+{
+    match fault {
+        FeedFault::BadFeed(line) => Followed::BadFeed { line },
+        FeedFault::StoreFault(shard) => Followed::StoreFault { shard },
     }
 }
