@@ -66,7 +66,7 @@ const STOOD_BY: Run = Run {
 };
 
 /// Feeds, whose journals are another program's.
-static STANDBYS: [Run; 5] = [
+static STANDBYS: [Run; 7] = [
     Run {
         name: "records out of order, each twice",
         requests: &[
@@ -97,6 +97,21 @@ static STANDBYS: [Run; 5] = [
         answers: &["stop 11 2\n"],
         status: 11,
         after: Some(&[VERSION, STATUS_3]),
+        ..STOOD_BY
+    },
+    Run {
+        name: "a line without a record, next only after the line before it",
+        requests: &["0 0 ", STATUS_3, "0 1 x\n", "0 1 ", COMMAND],
+        answers: &["stop 11 2\n"],
+        status: 11,
+        after: Some(&[VERSION, STATUS_3]),
+        ..STOOD_BY
+    },
+    Run {
+        name: "a line without a record, which isn't next",
+        requests: &["0 1 x\n", "0 0 ", STATUS_3, "0 1 ", COMMAND],
+        answers: &["0 2\n"],
+        after: Some(JOURNAL),
         ..STOOD_BY
     },
     Run {
