@@ -5,6 +5,7 @@ pub mod PanLemmas
 pub mod Joined
 pub mod Exact
 pub mod HexText
+pub mod DigitPair
 pub mod PanText
 pub mod Words
 pub mod Parts

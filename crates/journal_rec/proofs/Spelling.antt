@@ -1,6 +1,6 @@
 -- Decoding bytes one pair of digits after another.
 use Rattle.std.proofs.Common.{◌≡◌, ℕ, ◌+◌, ◌*◌, ◌<◌, ◌≤◌, List, [], ◌∷◌, ◌++◌, length, get_or, set, take, drop, Option, Some, None}
-use Rattle.std.proofs.Common.{option_map, option_and_then, refl, sym, ap, ◌∙◌, append_assoc, suc, ◌/◌, ◌%◌, leb, le-leb, true, false}
+use Rattle.std.proofs.Common.{option_map, option_and_then, refl, sym, ap, ◌∙◌, append_assoc, suc, ◌/◌, ◌%◌, leb, le-leb, Bool, true, false, cond, ◌&&◌}
 use Rattle.std.proofs.Common.{if◌then◌else◌, arith}
 use Rattle.std.proofs.lemmas.List.{append-nil, drop_more, drop_all, take_all, take_more_set}
 use Rattle.std.proofs.Math.Seq.{take-append_seam}
@@ -54,6 +54,22 @@ spelled_done digits out i whole full so_far =
     let last : behind (take i out) (spelled (drop (2 * i) digits)) ≡ Some out =
     ap (λ rest. behind (take i out) (spelled rest)) none ∙ ap Some (append-nil (take i out) ∙ take_all i out full) in
     sym last ∙ so_far
+
+-- one pair more, which may not be digits
+pub spelled_step : (digits out : List ℕ) (i byte : ℕ) (so_far is_byte : Bool) → 2 * i + 1 < length digits → i < length out
+    → cond is_byte (Some byte) None ≡ byte_of (get_or digits (2 * i) 0) (get_or digits (2 * i + 1) 0)
+    → cond so_far (behind (take i out) (spelled (drop (2 * i) digits))) None ≡ spelled digits
+    → cond (so_far && is_byte) (behind (take (i + 1) (set out i byte)) (spelled (drop (2 * (i + 1)) digits))) None ≡ spelled digits
+spelled_step digits out i byte true true fits room read before = spelled_more digits out i byte fits room (sym read) before
+spelled_step digits out i byte true false fits room read before = spelled_none digits out i fits (sym read) before
+spelled_step digits out i byte false is_byte fits room read before = before
+
+-- all pairs are decoded
+pub spelled_end : (digits out : List ℕ) (i : ℕ) (are_digits : Bool) → length digits ≤ 2 * i → length out ≤ i
+    → cond are_digits (behind (take i out) (spelled (drop (2 * i) digits))) None ≡ spelled digits
+    → cond are_digits (Some out) None ≡ spelled digits
+spelled_end digits out i true whole full so_far = spelled_done digits out i whole full so_far
+spelled_end digits out i false whole full so_far = so_far
 
 length_either : (byte : Option ℕ) (others : Option (List ℕ)) (bytes : List ℕ)
     → option_and_then (λ first. option_map (λ more. first ∷ more) others) byte ≡ Some bytes

@@ -1,5 +1,6 @@
 //! Hexadecimal digits in lower case.
-ghost use Rattle.std.specs.Prelude.{◌≡◌, ◌≤◌, ◌*◌, length, if◌then◌else◌, option_map, unwrap_or};
+ghost use Rattle.std.specs.Prelude.{◌≡◌, ◌<◌, ◌≤◌, ◌+◌, ◌*◌, ◌/◌, ◌%◌, length, slice_index, if◌then◌else◌, option_map, unwrap_or};
+ghost use Rattle.hex.specs.Hex.{lower_digits};
 ghost use Rattle.journal_rec.specs.Reading.{byte_of, digit_value, spelled, spelled_within};
 
 use arrayvec::ArrayVec;
@@ -44,9 +45,23 @@ fn byte_of(high: u8, low: u8) -> Option<u8>
     Some(byte as u8)
 }
 
+/// How many bytes the compiler decodes at once.
+const LANES: usize = 16;
+
 /// Decodes the digits into `out`. If they aren't all digits, returns `false`, and the contents of `out` are
 /// unspecified.
 pub(crate) fn decode_into(digits: &[u8], out: &mut [u8]) -> bool
+    requires { length digits.now ≡ 2 * length out.old }
+    ensures { (if result then Some out.new else None) ≡ spelled digits.now }
+{
+    if out.len() < LANES {
+        decode_short(digits, out)
+    } else {
+        decode_long(digits, out)
+    }
+}
+
+fn decode_short(digits: &[u8], out: &mut [u8]) -> bool
     requires { length digits.now ≡ 2 * length out.old }
     ensures { (if result then Some out.new else None) ≡ spelled digits.now }
 {
@@ -57,6 +72,46 @@ pub(crate) fn decode_into(digits: &[u8], out: &mut [u8]) -> bool
         out[i] = byte;
     }
     true
+}
+
+// A call of its own, since inlined for a known length, the loop would be unrolled rather than vectorised.
+#[inline(never)]
+fn decode_long(digits: &[u8], out: &mut [u8]) -> bool
+    requires { length digits.now ≡ 2 * length out.old }
+    ensures { (if result then Some out.new else None) ≡ spelled digits.now }
+{
+    let mut are_digits = true;
+    'bytes: for i in 0..out.len() {
+        let (byte, is_byte) = byte_by_sums(digits[2 * i], digits[2 * i + 1]);
+        are_digits &= is_byte;
+        out[i] = byte;
+    }
+    are_digits
+}
+
+/// The byte that two digits spell, and whether both are digits. Their values are computed together as the halves of a
+/// number, without a table or a branch, so that the compiler can vectorise the loop.
+fn byte_by_sums(high: u8, low: u8) -> (u8, bool)
+    ensures { (if result.1 then Some result.0 else None) ≡ byte_of high low }
+{
+    let digits = u16::from(high) + 256 * u16::from(low);
+
+    // A letter has bit 6, and its value is 9 more than its last four bits.
+    let letters = (digits / 64) & 0x0101;
+    let values = ((digits & 0x0f0f) + 9 * letters) & 0x0f0f;
+    let byte = (16 * (values % 256) + values / 256) as u8;
+    (byte, digits_of(values) == digits)
+}
+
+/// The digits of two values as halves of a number.
+fn digits_of(values: u16) -> u16
+    requires high { values % 256 < 16 }
+    requires low { values / 256 < 16 }
+    ensures { result ≡ slice_index lower_digits (values % 256) + 256 * slice_index lower_digits (values / 256) }
+{
+    // 6 more carries where a value is above 9.
+    let letters = ((values + 0x0606) / 16) & 0x0101;
+    values + 0x3030 + u16::from(b'a' - b'0' - 10) * letters
 }
 
 /// The bytes that the digits spell, or `None` if they spell none or more than `CAP`.

@@ -1,7 +1,7 @@
 -- Each pair of digits spells one more byte.
 use Rattle.std.proofs.Common.{sym, ◌∙◌, arith}
 use Rattle.journal_rec.proofs.Spelling.{spelled_more, spelled_none, spelled_done}
-use Rattle.journal_rec.proofs.digits.decode_into.Goals as goal
+use Rattle.journal_rec.proofs.digits.decode_short.Goals as goal
 
 pub returns-in_default : goal.returns-in_default
 returns-in_default c =

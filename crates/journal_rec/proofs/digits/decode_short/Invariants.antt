@@ -2,7 +2,7 @@
 use Rattle.std.proofs.Common.{◌≡◌, ◌*◌, take, drop}
 use Rattle.journal_rec.specs.Reading.{spelled}
 use Rattle.journal_rec.proofs.Spelling.{behind}
-use Rattle.journal_rec.proofs.digits.decode_into.Given as goal
+use Rattle.journal_rec.proofs.digits.decode_short.Given as goal
 
 -- the bytes so far and those that the other digits spell
 abbrev pub invariant-bytes : goal.invariant-bytes
