@@ -1,5 +1,5 @@
 -- Two digits decoded together by sums.
-use Rattle.std.proofs.Common.{◌≡◌, ℕ, ◌+◌, ◌*◌, ◌/◌, ◌%◌, ◌<◌, ◌==◌, get_or, map, List, Bool, true, false, cond, Option, Some, None, refl, sym, ap, ap₂, ◌∙◌, arith, bit_and, lit<}
+use Rattle.std.proofs.Common.{◌≡◌, ℕ, ◌+◌, ◌*◌, ◌/◌, ◌%◌, ◌<◌, ◌==◌, get_or, map, Bool, true, false, cond, Option, Some, None, refl, sym, ap, ap₂, ◌∙◌, arith, bit_and, lit<}
 use Rattle.std.proofs.lemmas.Bool.{eqb-true, eqb-false}
 use Rattle.std.proofs.lemmas.Nat.{and_block, and_mask}
 use Rattle.std.proofs.lemmas.List.FromFn.{get_or-map-range_with_len}
@@ -109,6 +109,7 @@ byte_of-sums high low digits again byte fits fits_low is_digits is_again is_byte
     none_either None read other = refl
     none_either (Some whole) read other =
         absurd (eqb-false again digits other (is_again ∙ spelled_both high low whole read ∙ sym is_digits))
+
     either : (same : Bool) → (again == digits) ≡ same → cond same (Some byte) None ≡ byte_of high low
     either true is = ap Some is_byte ∙ both_spell high low fits fits_low (sym is_again ∙ eqb-true again digits is ∙ is_digits)
     either false is = none_either (byte_of high low) refl is

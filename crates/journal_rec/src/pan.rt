@@ -7,7 +7,6 @@ ghost use Rattle.journal_rec.specs.Reading.{pan_of};
 ghost use Rattle.journal_rec.specs.RecordText.{packed, pan_bytes};
 
 use crate::limits::{PAN_BYTES, PAN_DIGITS};
-use arrayvec::ArrayVec;
 use issuer_base::Pan;
 
 /// The account number of these digits, if only `f` follows its decimal digits.
@@ -20,7 +19,7 @@ pub(crate) fn read_pan(text: &[u8]) -> Option<Pan>
     if !is_filling(filling) {
         return None;
     }
-    Pan::new(values(digits).as_slice())
+    Pan::new(&values(text)[..digits.len()])
 }
 
 fn decimal_prefix_length(text: &[u8]) -> usize
@@ -36,13 +35,14 @@ fn is_filling(text: &[u8]) -> bool
     text.iter().all(|byte| *byte == b'f')
 }
 
-fn values(digits: &[u8]) -> ArrayVec<u8, PAN_DIGITS>
-    requires { length digits.now ≤ PAN_DIGITS }
-    ensures { result.items ≡ map (λ digit. digit - 48) digits.now }
+/// The values of the digits, if all are decimal. The length is known, so that the compiler computes them together.
+fn values(text: &[u8]) -> [u8; PAN_DIGITS]
+    requires { length text.now ≡ PAN_DIGITS }
+    ensures { result ≡ map (λ digit. digit - 48) text.now }
 {
-    let mut values = ArrayVec::new();
-    for digit in digits {
-        values.push(digit.saturating_sub(b'0'));
+    let mut values = [0; PAN_DIGITS];
+    'digits: for i in 0..PAN_DIGITS {
+        values[i] = text[i].saturating_sub(b'0');
     }
     values
 }

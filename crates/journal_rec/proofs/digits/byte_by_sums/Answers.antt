@@ -1,5 +1,5 @@
 -- The sums are the byte if their digits are the two digits.
-use Rattle.std.proofs.Common.{◌≡◌, ◌+◌, ◌*◌, ◌/◌, ◌%◌, ap₂, ◌∙◌, arith}
+use Rattle.std.proofs.Common.{◌≡◌, ◌+◌, ◌*◌, ap₂, ◌∙◌, arith}
 use Rattle.journal_rec.proofs.HexText.{glyph}
 use Rattle.journal_rec.proofs.DigitPair.{both_bits-apart, byte_of-sums}
 use Rattle.journal_rec.proofs.digits.byte_by_sums.Goals as goal

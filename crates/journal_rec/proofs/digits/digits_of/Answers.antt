@@ -1,5 +1,4 @@
 -- The sum is that of both digits.
-use Rattle.std.proofs.Common.{ap, ◌∙◌, ◌+◌, ◌*◌, ◌/◌, ◌%◌}
 use Rattle.journal_rec.proofs.DigitPair.{both_glyphs}
 use Rattle.journal_rec.proofs.digits.digits_of.Goals as goal
 

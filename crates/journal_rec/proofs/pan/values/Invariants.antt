@@ -1,7 +1,11 @@
--- The invariant of the loop over decimal digits.
-use Rattle.std.proofs.Common.{◌≡◌, ◌-◌, map, take}
+-- The invariant of the loop over digits.
+use Rattle.std.proofs.Common.{◌≡◌, ◌-◌, length, map, take}
+use Rattle.journal_rec.specs.declared.limits.TheConstants.{PAN_DIGITS}
 use Rattle.journal_rec.proofs.pan.values.Given as goal
 
 -- the values of the digits so far
-abbrev pub invariant-loop-digit : goal.invariant-loop-digit
-invariant-loop-digit l = l.values.items ≡ map (λ digit. digit - 48) (take l.digit-index l.digits)
+abbrev pub invariant-digits : goal.invariant-digits
+invariant-digits l = record {
+  values : take l.i l.values ≡ map (λ digit. digit - 48) (take l.i l.text);
+  size : length l.values ≡ PAN_DIGITS;
+}
