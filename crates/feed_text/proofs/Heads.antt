@@ -1,12 +1,10 @@
 -- A line begins with at most one shard and index, and a feed line with its own.
-use Rattle.std.proofs.Common.{◌≡◌, ◌≢◌, ℕ, ◌+◌, ◌^◌, zero, suc, ◌/◌, ◌%◌, ◌<◌, ◌≤◌, ◌==◌, Bool, true, false, not, if◌then◌else◌, List, [], ◌∷◌, ◌++◌, refl, sym, ap, ◌∙◌, arith}
+use Rattle.std.proofs.Common.{◌≡◌, ℕ, ◌+◌, ◌^◌, zero, suc, ◌/◌, ◌%◌, ◌<◌, ◌≤◌, ◌==◌, Bool, true, false, not, if◌then◌else◌, List, [], ◌∷◌, ◌++◌, refl, sym, ap, ◌∙◌, arith}
 use Rattle.std.proofs.Common.{rules, Option, Some, None, length, take, drop, get_or, eq-eqb, ⊎_elim, length-append, append_assoc}
 use Rattle.std.proofs.Math.Seq.{get_or-append_seam, take-append_seam}
 use Rattle.std.proofs.lemmas.Bool.{cases_lt, eqb-true}
 use Rattle.std.proofs.lemmas.List.{drop_more, get_or_append_left, take-append-drop}
-use Rattle.std.proofs.lemmas.Str.{IsUtf8-from_ascii}
-use Rattle.std.proofs.lemmas.Fmt.{IsAscii-decimal, decimal_injective, length-decimal-le}
-use Rattle.std.specs.Str.{IsUtf8}
+use Rattle.std.proofs.lemmas.Fmt.{decimal_injective, length-decimal-le}
 use Rattle.issuer_base.specs.declared.entry.Entry.{Entry}
 use Rattle.issuer_base.specs.declared.limits.TheConstants.{MAX_SHARDS}
 use Rattle.journal_rec.specs.Record.{IsRecord}
@@ -94,10 +92,6 @@ parted-at line place first =
     sym (take-append-drop place line)
     ∙ ap (λ text. take place line ++ text)
     (drop_more line place 0 first.0.high ∙ ap (λ b. b ∷ drop (place + 1) line) byte)
-
--- a word that says a number is text
-pub is-text : (word : List ℕ) (number : ℕ) → number < 2 ^ 64 → word ≡ decimal number → IsUtf8 word
-is-text word number below is = rw is (IsUtf8-from_ascii (decimal number) (IsAscii-decimal number below))
 
 word-apart : (word other rest behind : List ℕ) → has_no_space word ≡ true → has_no_space other ≡ true
     → word ++ 32 ∷ rest ≡ other ++ 32 ∷ behind → (word ≡ other) × (rest ≡ behind)

@@ -1,12 +1,11 @@
 //! The parser of the numbers that a feed line begins with.
-ghost use Rattle.std.specs.Prelude.{◌≡◌, ◌≢◌, ℕ, ◌^◌, ◌<◌, List, ◌∷◌, ◌++◌, MatchOption};
+ghost use Rattle.std.specs.Prelude.{◌≡◌, ◌≢◌, ◌↔◌, ℕ, ◌+◌, ◌*◌, ◌^◌, ◌<◌, ◌≤◌, List, ◌∷◌, ◌++◌, length, slice_index, IsTrue, MatchOption};
+ghost use Rattle.std.specs.Char.{digit_value};
 ghost use Rattle.std.specs.Fmt.{decimal};
 ghost use Rattle.feed_text.specs.FeedText.{HasHead};
 
 use crate::limits::PLACE_END;
-use itoa::Buffer;
 use memchr::memchr;
-use std::str;
 
 /// What a feed line begins with, and what follows it.
 #[derive(Clone, Copy)]
@@ -49,16 +48,38 @@ fn number_of(word: &[u8]) -> Option<u64>
     ensures { MatchOption result ((number : ℕ) → number < 2 ^ 64 → word.now ≢ decimal number)
         (λ number. word.now ≡ decimal number) }
 {
-    let Ok(text) = str::from_utf8(word) else {
+    if word.is_empty() {
         return None;
-    };
-    let Ok(number) = text.parse::<u64>() else {
-        return None;
-    };
-    let mut digits = Buffer::new();
-    if digits.format(number) == text {
-        Some(number)
-    } else {
-        None
     }
+    if has_leading_zero(word) {
+        return None;
+    }
+    let mut number = 0;
+    for byte in word {
+        match with_digit(number, *byte) {
+            Some(more) => number = more,
+            None => return None,
+        }
+    }
+    Some(number)
+}
+
+/// Whether a word begins with a zero, and has more bytes.
+fn has_leading_zero(word: &[u8]) -> bool
+    requires { 0 < length word.now }
+    ensures { IsTrue result ↔ ((slice_index word.now 0 ≡ 48) × (1 < length word.now)) }
+{
+    word[0] == b'0' && word.len() > 1
+}
+
+/// The number that has one more digit; `None` if the byte is no decimal digit, or the number is too large.
+fn with_digit(number: u64, byte: u8) -> Option<u64>
+    ensures { MatchOption result (digit_value byte < 10 → 2 ^ 64 ≤ number * 10 + digit_value byte)
+        (λ more. (digit_value byte < 10) × (more ≡ number * 10 + digit_value byte)) }
+{
+    if !byte.is_ascii_digit() {
+        return None;
+    }
+    let tens = number.checked_mul(10)?;
+    tens.checked_add(u64::from(byte - b'0'))
 }

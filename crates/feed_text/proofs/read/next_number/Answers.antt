@@ -1,7 +1,7 @@
 -- The number before the first space.
-use Rattle.std.proofs.Common.{◌≡◌, sym, ap, ◌∙◌, rules, arith, take}
+use Rattle.std.proofs.Common.{rules}
 use Rattle.std.specs.Fmt.{decimal}
-use Rattle.feed_text.proofs.Heads.{decimal-inner, has-space, word-before, parted-at}
+use Rattle.feed_text.proofs.Heads.{decimal-inner, has-space, word-before}
 use Rattle.feed_text.proofs.read.next_number.Goals as goal
 
 pub returns-in_err-end : goal.returns-in_err-end

@@ -1,25 +1,34 @@
 -- A word that is refused says no number below 2^64.
-use Rattle.std.proofs.Common.{◌≡◌, Ok, sym, ap, ◌∙◌, rules, arith}
-use Rattle.std.specs.Fmt.{decimal}
-use Rattle.std.proofs.lemmas.Fmt.{parse-decimal}
-use Rattle.feed_text.proofs.Heads.{is-text}
+use Rattle.std.proofs.Common.{◌≡◌, ◌<◌, ◌≤◌, length, get_or, ⊎_elim, rules, arith}
+use Rattle.std.proofs.lemmas.Bool.{cases_lt}
+use Rattle.feed_text.proofs.Digits.{are-decimals, no-zero_first, not-empty, not-stopped, says-more}
 use Rattle.feed_text.proofs.read.number_of.Goals as goal
 
-pub returns-in_default : goal.returns-in_default
-returns-in_default c = λ number below is. c.in_default.ensures.cases.0 (is-text c.args.word.now number below is)
+pub returns-then-is_empty : goal.returns-then-is_empty
+returns-then-is_empty c = λ number fits is. not-empty c.args.word.now number fits is (search rules)
 
-pub returns-in_default-parse : goal.returns-in_default-parse
-returns-in_default-parse c = λ number below is.
-    let text : c.in-Ok.text.now ≡ decimal number = c.in-Ok.ensures.cases.0 ∙ is in
-    let read : c.parse.result ≡ Ok number = parse-decimal 64 number c.in-Ok.text.now c.parse.result below below text
-    c.parse.ensures.value.0 in
-    search (rules, read)
+pub returns-then-has_leading_zero : goal.returns-then-has_leading_zero
+returns-then-has_leading_zero c = λ number fits is.
+    let zero : (get_or c.args.word.now 0 0 ≡ 48) × (1 < length c.args.word.now) = search rules in
+    no-zero_first c.args.word.now number fits is zero.0 zero.1
 
-pub returns-else-eq : goal.returns-else-eq
-returns-else-eq c = λ number below is.
-    let text : c.in-Ok.text.now ≡ decimal number = c.in-Ok.ensures.cases.0 ∙ is in
-    let read : c.parse.result ≡ Ok number = parse-decimal 64 number c.in-Ok.text.now c.parse.result below below text
-    c.parse.ensures.value.0 in
-    let same : c.in-Ok-parse.number ≡ number = (let other = c.in-Ok-parse.is in cc) in
-    let printed : c.format.result.now ≡ c.in-Ok.text.now = c.format.ensures.text ∙ ap decimal same ∙ sym text in
-    search (rules, printed)
+pub returns-in-None : goal.returns-in-None
+returns-in-None c = λ number fits is.
+    not-stopped c.args.word.now number fits is c.loop-byte.byte-index c.loop-byte.number (omega arith) c.loop-byte.invariant
+    c.in-None.ensures
+
+pub loop-byte-preserved : goal.loop-byte-preserved
+loop-byte-preserved c =
+    says-more c.args.word.now c.loop-byte.byte-index c.loop-byte.number c.in-Some.more (omega arith) c.loop-byte.invariant
+    c.in-Some.ensures.0 c.in-Some.ensures.1 (omega arith)
+
+pub returns : goal.returns
+returns c =
+    let some : 0 < length c.args.word.now = search rules in
+    are-decimals c.args.word.now c.loop-byte.byte-index c.loop-byte.number (omega arith) some
+    (λ (first : get_or c.args.word.now 0 0 ≡ 48).
+    ⊎_elim
+    (λ (long : 1 < length c.args.word.now). absurd (cc (c.if-has_leading_zero.ensures.1 (first, long))))
+    (λ (short : length c.args.word.now ≤ 1). omega (arith, some, short))
+    (cases_lt 1 (length c.args.word.now)))
+    c.loop-byte.invariant

@@ -1,5 +1,5 @@
 -- A line that is refused begins with no shard and index.
-use Rattle.std.proofs.Common.{◌≡◌, ◌<◌, ◌^◌, ◌++◌, ◌∷◌, sym, ap, ◌∙◌, rules, arith}
+use Rattle.std.proofs.Common.{◌<◌, ◌^◌, ◌++◌, ◌∷◌, sym, ◌∙◌, rules, arith}
 use Rattle.std.specs.Fmt.{decimal}
 use Rattle.feed_text.proofs.Heads.{number-apart}
 use Rattle.feed_text.proofs.read.read_head.Goals as goal

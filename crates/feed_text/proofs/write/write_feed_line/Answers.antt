@@ -1,5 +1,5 @@
 -- The line has room for its record, and isn't too long.
-use Rattle.std.proofs.Common.{◌≡◌, ◌≤◌, ◌++◌, ◌∷◌, [], length, rules, arith, sym, ap, subst}
+use Rattle.std.proofs.Common.{◌≡◌, ◌≤◌, ◌++◌, ◌∷◌, [], length, rules, sym, subst}
 use Rattle.std.specs.Fmt.{decimal}
 use Rattle.journal_rec.specs.RecordText.{text_of}
 use Rattle.journal_rec.proofs.TextLaws.{length-text_of}
