@@ -1,17 +1,16 @@
 -- Lines that were read ahead are taken one after another.
-use Rattle.std.proofs.Common.{◌≡◌, ℕ, zero, suc, ◌+◌, ◌<◌, ◌≤◌, Bool, List, [], ◌∷◌, ◌++◌, length, take, drop, get_or, Ok, Err, Some, Result, inl, inr, ⊎_elim, refl, sym, ap, subst, ◌∙◌, arith, append_assoc, append-nil, length-append}
+use Rattle.std.proofs.Common.{◌≡◌, ℕ, zero, suc, ◌+◌, ◌<◌, ◌≤◌, Bool, List, [], ◌∷◌, ◌++◌, length, take, drop, get_or, Ok, Err, Result, inl, inr, refl, sym, ap, subst, ◌∙◌, arith, append_assoc, append-nil, length-append}
 use Rattle.std.proofs.lemmas.List.{length_push, take-append-drop, take_all, take_more}
 use Rattle.std.proofs.lemmas.List.Concat.{flat_map-append}
 use Rattle.std.proofs.lemmas.Option.{slice_get_within}
 use Rattle.std.proofs.lemmas.Slice.Zip.{AllZip-long}
-use Rattle.std.specs.List.{AllByRecursion, AllZip, flat_map, slice_get}
+use Rattle.std.specs.List.{AllByRecursion, AllZip, flat_map}
 use Rattle.issuer_base.specs.declared.entry.Entry.{Entry}
 use Rattle.issuer_base.specs.declared.outside.store.Store.{Ghosts}
 use Rattle.issuer_setup.specs.IssuerSetup.{Setup}
 use Rattle.journal_rec.specs.Record.{IsLineOf}
 use Rattle.line_checks.proofs.Again.{zip-at}
-use Rattle.line_reader.specs.Lines.{BeginsWithLines, IsUnbroken, ended}
-use Rattle.line_reader.proofs.LineLaws.{BeginsWithLines-line}
+use Rattle.line_reader.specs.Lines.{IsUnbroken, ended}
 use Rattle.shard_book.specs.declared.shard.Shard.{Shard}
 use Rattle.host_loading.specs.Hosts.{AreShards}
 use Rattle.host_loading.proofs.Places.{read-within}
@@ -21,7 +20,7 @@ use Rattle.standby_node.specs.declared.line.FeedFault.TheVariants.{BadFeed, Stor
 use Rattle.standby_node.specs.declared.line.ReadLine.{ReadLine}
 use Rattle.standby_node.specs.declared.line.ReadLine.TheVariants.{Bad, Behind, NoRecord, Record}
 use Rattle.standby_node.specs.declared.standby.Standby.{Standby}
-use Rattle.standby_node.specs.FeedLines.{IsFor, IsNext, NamesNoShard}
+use Rattle.standby_node.specs.FeedLines.{IsFor, IsNext}
 use Rattle.standby_node.specs.OneLine.{Does, HasTakenLines}
 use Rattle.standby_node.specs.ReadLines.{AreAhead, IsAt, IsNoLine, IsReadAs}
 use Rattle.standby_node.specs.Standing.{Feeds, HasTaken, Hold, KeepsShards, LeavesBetween, shards_in}
@@ -98,7 +97,7 @@ module _ {S : Type 0} {G : Ghosts S} (issuer : Setup) (first last : List (List E
         behind = omega (arith, behind, longer);
       }
   read-later (NoRecord shard place) is = at-later shard place IsNoLine is
-  read-later (Record shard place entry text) is = at-later shard place (IsLineOf entry) is
+  read-later (Record shard place entry) is = at-later shard place (IsLineOf entry) is
 
 -- the same lines
 pub ahead-same : (histories : List (List Entry)) (lines : List (List ℕ)) (old new : FeedLines) → new.lines.items ≡ old.lines.items

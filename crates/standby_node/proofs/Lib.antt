@@ -8,4 +8,5 @@ pub mod Taken
 pub mod Pieces
 pub mod Fed
 pub mod Ahead
+pub mod Packing
 pub mod Ready

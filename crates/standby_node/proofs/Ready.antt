@@ -29,7 +29,7 @@ module _ (issuer : Setup) where
   line-again Bad old new is again = none-again old new is again
   line-again Behind old new is again = none-again old new is again
   line-again (NoRecord shard place) old new is again = (is.0, none-again old new is.1 again)
-  line-again (Record shard place entry text) old new is again = (
+  line-again (Record shard place entry) old new is again = (
     is.0,
     record { form = is.1.form; text_is = is.1.text_is; looked_up = looked-again issuer entry old new is.1.looked_up again },
   )
@@ -38,7 +38,7 @@ module _ (issuer : Setup) where
   line-ready Bad found is = none-ready found is
   line-ready Behind found is = none-ready found is
   line-ready (NoRecord shard place) found is = none-ready found is.1
-  line-ready (Record shard place entry text) found is =
+  line-ready (Record shard place entry) found is =
       All-head (IsReadyToCheck issuer) found [] (all-ready issuer (entry ∷ []) (found ∷ []) (is.1.looked_up, tt))
 
   pub lines-again : (lines : List ReadLine) (old new : List (Result LookedUp Refusal)) → AllZip (IsReady issuer) lines old

@@ -2,6 +2,7 @@
 pub mod FeedLines
 pub mod Streams
 pub mod Standing
+pub mod KeptTexts
 pub mod ReadLines
 pub mod Primary
 pub mod OneLine

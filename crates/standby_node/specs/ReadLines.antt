@@ -47,7 +47,7 @@ abbrev pub IsReadAs : List (List Entry) → List ℕ → ReadLine → Type 0
 IsReadAs histories line Bad = IsBadAnyway histories line
 IsReadAs histories line Behind = IsBehind histories line
 IsReadAs histories line (NoRecord shard place) = IsAt histories line shard place IsNoLine
-IsReadAs histories line (Record shard place entry text) = IsAt histories line shard place (IsLineOf entry)
+IsReadAs histories line (Record shard place entry) = IsAt histories line shard place (IsLineOf entry)
 
 -- the lines that were read ahead are these
 pub record AreAhead (histories : List (List Entry)) (lines : List (List ℕ)) (ahead : FeedLines) : Type 0 where
@@ -61,18 +61,17 @@ pub record IsNoneAhead (ahead : FeedLines) : Type 0 where
 
 -- ---- what it takes to take them
 
--- its shard is one of the issuer's, and the text is its record's
+-- its shard is one of the issuer's, and its record is well formed
 abbrev pub IsFormed : Setup → ReadLine → Type 0
 IsFormed issuer (NoRecord shard place) = shard < issuer.shards
-IsFormed issuer (Record shard place entry text) =
-    (shard < issuer.shards) × IsRecord entry × (text.items ≡ text_of entry)
+IsFormed issuer (Record shard place entry) = (shard < issuer.shards) × IsRecord entry
 IsFormed issuer line = Unit {0}
 
 -- and this was looked up for the record
 abbrev pub IsReady : Setup → ReadLine → Result LookedUp Refusal → Type 0
 IsReady issuer (NoRecord shard place) found = (shard < issuer.shards) × (found ≡ Err UnknownCard)
-IsReady issuer (Record shard place entry text) found =
-    (shard < issuer.shards) × IsReadRecord issuer entry text.items found
+IsReady issuer (Record shard place entry) found =
+    (shard < issuer.shards) × IsReadRecord issuer entry (text_of entry) found
 IsReady issuer line found = found ≡ Err UnknownCard
 
 -- so it is of each line that was read ahead

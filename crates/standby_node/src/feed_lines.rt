@@ -1,8 +1,10 @@
 //! Whole lines of a feed that are read ahead of their turns.
 ghost use Rattle.std.specs.Prelude.{◌≡◌, ◌↔◌, ◌<◌, ◌≤◌, [], ◌∷◌, ◌++◌, length, vec_capacity, IfOk, IsTrue};
 ghost use Rattle.line_checks.specs.declared.lines_ahead.TheConstants.{MOST_AHEAD};
+ghost use Rattle.standby_node.specs.KeptTexts.{HaveTexts};
 
 use crate::line::{ReadLine, look_up_line};
+use crate::texts::PackedTexts;
 use issuer_base::{NoMemory, Refusal};
 use issuer_setup::Issuer;
 use line_checks::{LookedUp, MOST_AHEAD, check_in_lanes};
@@ -12,12 +14,23 @@ use std::alloc::Global;
 #[derive(Drop)]
 pub struct FeedLines {
     lines: Vec<ReadLine>,
+
+    /// For each line the text of its record, with its newline. Of a line without a record no text counts.
+    record_texts: PackedTexts,
     found: Vec<Result<LookedUp, Refusal>>,
     ghost room: { MOST_AHEAD ≤ vec_capacity lines },
     ghost room_found: { MOST_AHEAD ≤ vec_capacity found },
+    ghost room_texts: { MOST_AHEAD ≤ record_texts.room },
+    ghost each: { length record_texts.texts ≡ length lines.items },
+    ghost have_texts: { HaveTexts lines.items record_texts.texts },
 }
 
 impl FeedLines {
+    ghost use Rattle.std.specs.Prelude.{slice_get, Some};
+    ghost use Rattle.feed_text.specs.declared.limits.TheConstants.{MOST_FEED_BYTES};
+    ghost use Rattle.line_reader.specs.Lines.{ended};
+    ghost use Rattle.standby_node.specs.declared.line.ReadLine.{ReadLine};
+    ghost use Rattle.standby_node.specs.KeptTexts.{HasText};
     ghost use Rattle.standby_node.specs.ReadLines.{AreReady, IsFormed, IsNoneAhead};
 
     /// No lines. Only this call allocates.
@@ -26,7 +39,12 @@ impl FeedLines {
     {
         let lines = Vec::with_capacity(alloc, MOST_AHEAD)?;
         let found = Vec::with_capacity(alloc, MOST_AHEAD)?;
-        Ok(FeedLines { lines, found })
+        let record_texts = PackedTexts::new(alloc)?;
+        Ok(FeedLines {
+            lines,
+            record_texts,
+            found,
+        })
     }
 
     /// Whether there are as many lines as there may be.
@@ -50,15 +68,25 @@ impl FeedLines {
         self.found.as_slice()
     }
 
-    /// Adds a line that was read, and looks its record up.
-    pub(crate) fn add(&mut self, issuer: &Issuer, line: ReadLine)
+    /// The text of the record of the line at this index, with its newline.
+    pub(crate) fn text(&self, place: usize) -> &[u8]
+        requires { place < length self.now.lines.items }
+        ensures { (line : ReadLine) → slice_get self.now.lines.items place ≡ Some line → HasText line result.now }
+    {
+        self.record_texts.text(place)
+    }
+
+    /// Adds a line that was read, with the text of its record without the newline, and looks the record up.
+    pub(crate) fn add(&mut self, issuer: &Issuer, line: ReadLine, text: &[u8])
         requires ready { AreReady issuer.now self.old }
         requires room { length self.old.lines.items < MOST_AHEAD }
         requires form { IsFormed issuer.now line }
+        requires text { HasText line (ended text.now) × (length text.now < MOST_FEED_BYTES) }
         ensures added { self.new.lines.items ≡ self.old.lines.items ++ line ∷ [] }
         ensures ready { AreReady issuer.now self.new }
     {
         self.found.push_reserved(look_up_line(issuer, &line));
+        self.record_texts.add(text);
         self.lines.push_reserved(line);
     }
 
@@ -77,6 +105,7 @@ impl FeedLines {
         ensures { IsNoneAhead self.new }
     {
         self.lines.clear();
+        self.record_texts.clear();
         self.found.clear();
     }
 }

@@ -9,6 +9,7 @@ ghost use Rattle.journal_rec.specs.Record.{IsLineOf};
 ghost use Rattle.line_reader.specs.Lines.{ended};
 ghost use Rattle.feed_text.specs.declared.limits.TheConstants.{MOST_FEED_BYTES};
 ghost use Rattle.standby_node.specs.OneLine.{Does, TakesAt, has_failed};
+ghost use Rattle.standby_node.specs.KeptTexts.{HasText};
 ghost use Rattle.standby_node.specs.ReadLines.{IsFormed, IsReadAs, IsReady};
 ghost use Rattle.standby_node.specs.Standing.{Hold, KeepsShards, LeavesBetween};
 
@@ -42,18 +43,10 @@ pub(crate) enum ReadLine {
     Behind,
 
     /// It is for this shard, with this index. What follows is the line of no record.
-    NoRecord {
-        shard: u8,
-        place: u64,
-    },
+    NoRecord { shard: u8, place: u64 },
 
-    /// It is for this shard, with this index. What follows is the line of this record, whose text this is.
-    Record {
-        shard: u8,
-        place: u64,
-        entry: Entry,
-        text: ArrayVec<u8, MOST_FEED_BYTES>,
-    },
+    /// It is for this shard, with this index. What follows is the line of this record.
+    Record { shard: u8, place: u64, entry: Entry },
 }
 
 /// Takes the whole line with this number, without its newline, into the shards of an issuer.
@@ -71,43 +64,50 @@ pub(crate) fn take_line<S: Store>(
         × LeavesBetween issuer.now histories after shards.old.items shards.new.items }
     ensures kept { KeepsShards issuer.now shards.old.items result shards.new.items }
 {
-    let read = read_line(shards, issuer, line);
+    let (read, rest) = read_line(shards, issuer, line);
     let found = look_up_line(issuer, &read);
-    take_read(shards, issuer, &read, &found, number)
+    let text = ended(rest);
+    take_read(shards, issuer, &read, text.as_slice(), &found, number)
 }
 
-/// Reads a whole line, without its newline, for the shards of an issuer.
-pub(crate) fn read_line<S: Store>(shards: &Vec<Shard<S>>, issuer: &Issuer, line: &[u8]) -> ReadLine
+/// Reads a whole line, without its newline, for the shards of an issuer. Beside it stands the text of its record.
+pub(crate) fn read_line<'a, S: Store>(
+    shards: &Vec<Shard<S>>,
+    issuer: &Issuer,
+    line: &'a [u8],
+) -> (ReadLine, &'a [u8])
     requires { AreShards issuer.now shards.now.items }
     ensures read { (in_doubt : ℕ → Bool) (histories : List (List Entry))
-        → Hold issuer.now in_doubt shards.now.items histories → IsReadAs histories line.now result }
-    ensures form { IsFormed issuer.now result }
+        → Hold issuer.now in_doubt shards.now.items histories → IsReadAs histories line.now result.0 }
+    ensures form { IsFormed issuer.now result.0 }
+    ensures text { HasText result.0 (ended result.1.now) × (length result.1.now < MOST_FEED_BYTES) }
 {
     if line.len() >= MOST_FEED_BYTES {
-        return ReadLine::Bad;
+        return (ReadLine::Bad, &line[..0]);
     }
     let Some(head) = read_head(line) else {
-        return ReadLine::Bad;
+        return (ReadLine::Bad, &line[..0]);
     };
     if head.shard >= u64::from(issuer.shards()) {
-        return ReadLine::Bad;
+        return (ReadLine::Bad, &line[..0]);
     }
     let shard = head.shard as u8;
     if head.place < shards[usize::from(shard)].places() {
-        return ReadLine::Behind;
+        return (ReadLine::Behind, &line[..0]);
     }
     let Ok(entry) = read_entry(head.rest) else {
-        return ReadLine::NoRecord {
+        let read = ReadLine::NoRecord {
             shard,
             place: head.place,
         };
+        return (read, &line[..0]);
     };
-    ReadLine::Record {
+    let read = ReadLine::Record {
         shard,
         place: head.place,
         entry,
-        text: ended(head.rest),
-    }
+    };
+    (read, head.rest)
 }
 
 /// A line with its newline.
@@ -132,16 +132,19 @@ pub(crate) fn look_up_line(issuer: &Issuer, line: &ReadLine) -> Result<LookedUp,
     }
 }
 
-/// Takes the line with this number, which was read ahead, into the shards of an issuer.
+/// Takes the line with this number, which was read ahead, into the shards of an issuer. The text is its record's, with
+/// its newline.
 pub(crate) fn take_read<S: Store>(
     shards: &mut Vec<Shard<S>>,
     issuer: &Issuer,
     line: &ReadLine,
+    text: &[u8],
     found: &Result<LookedUp, Refusal>,
     number: u64,
 ) -> Result<(), FeedFault>
     requires shards { AreShards issuer.now shards.old.items }
     requires line { IsReady issuer.now line.now found.now }
+    requires text { HasText line.now text.now }
     ensures does { (in_doubt : ℕ → Bool) (histories : List (List Entry)) (text : List ℕ)
         → Hold issuer.now in_doubt shards.old.items histories → IsReadAs histories text line.now
         → (after : List (List Entry))
@@ -162,13 +165,12 @@ pub(crate) fn take_read<S: Store>(
             shard,
             place,
             entry,
-            text,
         } => match take_next(
             &mut shards[usize::from(*shard)],
             issuer,
             *place,
             entry,
-            text.as_slice(),
+            text,
             found,
         ) {
             Ok(()) => Ok(()),

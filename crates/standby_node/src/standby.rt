@@ -87,7 +87,8 @@ impl<S: Store> Standby<S> {
         ensures ready { AreReady issuer.now ahead.new }
         ensures count { length ahead.new.lines.items ≡ length ahead.old.lines.items + 1 }
     {
-        ahead.add(issuer, read_line(&self.shards, issuer, line));
+        let (read, text) = read_line(&self.shards, issuer, line);
+        ahead.add(issuer, read, text);
     }
 
     /// Takes the lines that were read ahead, in their order, behind the whole lines of the stream. Each record is durable
@@ -162,7 +163,14 @@ impl<S: Store> Standby<S> {
         let found = ahead.found();
         for (i, line) in ahead.lines().iter().enumerate() {
             self.lines = self.lines.saturating_add(1);
-            match take_read(&mut self.shards, issuer, line, &found[i], self.lines) {
+            match take_read(
+                &mut self.shards,
+                issuer,
+                line,
+                ahead.text(i),
+                &found[i],
+                self.lines,
+            ) {
                 Ok(()) => {}
                 Err(fault) => return Err(fault),
             }

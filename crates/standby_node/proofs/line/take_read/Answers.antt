@@ -75,7 +75,8 @@ take_next-requires-clause-under g c =
 pub take_next-requires-clause-read : goal.take_next-requires-clause-read
 take_next-requires-clause-read g c =
     let ready = subst (λ (line : ReadLine). IsReady c.args.issuer.now line c.args.found.now) c.in-Record.is c.requires.line in
-    subst (λ (text : List ℕ). IsReadRecord c.args.issuer.now c.in-Record.entry text c.args.found.now) (sym c.as_slice.ensures.value) ready.1
+    subst (λ (text : List ℕ). IsReadRecord c.args.issuer.now c.in-Record.entry text c.args.found.now)
+    (sym (c.requires.text c.in-Record.shard c.in-Record.place c.in-Record.entry c.in-Record.is)) ready.1
 
 -- what it does is what the shard does
 done : (g : Over) (c : After-take_next g) → slice_get c.args.shards.now.items c.in-Record.shard ≡ Some c.index_mut.result.now

@@ -1,9 +1,12 @@
 -- One more line with what was looked up for it.
-use Rattle.std.proofs.Common.{List, [], ◌∷◌, ◌++◌, Result, length, sym, subst, arith}
+use Rattle.std.proofs.Common.{◌≡◌, ℕ, List, [], ◌∷◌, ◌++◌, ap, sym, subst, arith}
 use Rattle.std.proofs.lemmas.Slice.Zip.{AllZip-long, all_zipped_more}
 use Rattle.std.specs.List.{AllZip}
 use Rattle.standby_node.specs.declared.line.ReadLine.{ReadLine}
+use Rattle.line_reader.specs.Lines.{ended}
+use Rattle.standby_node.specs.KeptTexts.{HaveTexts, KeptTexts}
 use Rattle.standby_node.specs.ReadLines.{IsReady}
+use Rattle.standby_node.proofs.Packing.{have-push}
 use Rattle.standby_node.proofs.feed_lines.FeedLines.add.Goals as goal
 
 pub returns-clause-ready : goal.returns-clause-ready
@@ -18,3 +21,14 @@ pub push_reserved-requires : goal.push_reserved-requires
 push_reserved-requires c =
     let old = c.args.self.now in
     omega (arith, AllZip-long (IsReady c.args.issuer.now) old.lines.items old.found.items c.requires.ready, c.requires.room, old.room_found)
+
+pub invariant_of-self-clause-have_texts : goal.invariant_of-self-clause-have_texts
+invariant_of-self-clause-have_texts c =
+    let old = c.args.self.now in
+    let lines : List ReadLine = old.lines.items in
+    let texts : List (List ℕ) = old.record_texts.texts in
+    let text : List ℕ = ended c.args.text.now in
+    let texts_are : c.add.new.self.texts ≡ texts ++ text ∷ [] = ap (λ (kept : KeptTexts). kept.texts) c.add.ensures in
+    subst (λ (lines : List ReadLine). HaveTexts lines c.add.new.self.texts) (sym c.push_reserved-2.ensures.items)
+    (subst (HaveTexts (lines ++ c.args.line ∷ [])) (sym texts_are)
+    (have-push lines texts c.args.line text old.each old.have_texts c.requires.text.0))

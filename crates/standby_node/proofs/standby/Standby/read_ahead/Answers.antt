@@ -16,9 +16,9 @@ returns-clause-read g c in_doubt histories lines hold is =
       whole = each-push lines line is.whole c.requires.line;
       read =
           subst (AllZip (IsReadAs histories) (lines ++ line ∷ [])) (sym c.add.ensures.added)
-          (all_zipped_more (IsReadAs histories) lines before line c.read_line.result is.read (c.read_line.ensures.read in_doubt histories hold));
+          (all_zipped_more (IsReadAs histories) lines before line c.read_line-read.result.0 is.read (c.read_line-read.ensures.read in_doubt histories hold));
     }
 
 pub returns-clause-count : goal.returns-clause-count
 returns-clause-count g c =
-    omega (arith, ap length c.add.ensures.added, length_push c.args.ahead.now.lines.items c.read_line.result)
+    omega (arith, ap length c.add.ensures.added, length_push c.args.ahead.now.lines.items c.read_line-read.result.0)

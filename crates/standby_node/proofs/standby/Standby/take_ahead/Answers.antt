@@ -1,5 +1,5 @@
 -- The lines are taken one after another.
-use Rattle.std.proofs.Common.{◌≡◌, ◌<◌, List, Result, Err, Ok, ap, arith, get_or, length, refl, sym, subst, ◌∙◌}
+use Rattle.std.proofs.Common.{◌≡◌, List, Result, Err, Ok, ap, arith, get_or, length, refl, sym, subst, ◌∙◌}
 use Rattle.std.proofs.lemmas.Slice.Zip.{AllZip-long}
 use Rattle.issuer_base.specs.declared.answer.Refusal.{Refusal}
 use Rattle.line_checks.specs.declared.looked_up.LookedUp.{LookedUp}

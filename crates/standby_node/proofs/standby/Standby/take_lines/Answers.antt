@@ -1,5 +1,5 @@
 -- The lines are checked and taken, behind the whole lines of the stream.
-use Rattle.std.proofs.Common.{◌++◌, refl, subst}
+use Rattle.std.proofs.Common.{◌++◌, refl}
 use Rattle.std.specs.List.{flat_map}
 use Rattle.line_reader.specs.Lines.{ended}
 use Rattle.standby_node.proofs.Ahead.{ahead-same, lines-begun}
