@@ -1,3 +1,4 @@
 -- The laws of this crate.
+pub mod ArpcBlocks
 pub mod Blocks
 pub mod Lengths

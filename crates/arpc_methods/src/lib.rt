@@ -2,12 +2,17 @@
 //! project's profile.
 #![tactic(auto)]
 
+mod ahead;
+mod batch;
+
 ghost use Rattle.std.specs.Prelude.{◌≡◌, ◌+◌, ◌≤◌, ◌++◌, length, replicate};
 ghost use Rattle.retail_mac.specs.Mac.{xor_bytes};
 ghost use Rattle.arpc_methods.specs.Arpc.{eight_of, method1, method2, value91};
 
 use aes_cipher::Aes;
+pub use ahead::{AnswerParts, MadeAhead};
 use arrayvec::ArrayVec;
+pub use batch::AnswerBatch;
 use des_block::{Key16, Tdes};
 use issuer_base::{Method, Suite};
 use key_derive::{MacKey, first_half, with_zeros};

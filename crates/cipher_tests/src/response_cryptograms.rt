@@ -1,7 +1,7 @@
 //! The issuer's cryptograms and tag 91 by both methods: a worked row, and values of another program, which was compared with
 //! OpenSSL. Keys and blocks are numbers, the first byte the highest.
 
-use arpc_methods::{method1, method2, value91};
+use arpc_methods::{AnswerBatch, AnswerParts, method1, method2, value91};
 use des_block::Key16;
 use issuer_base::{Method, Suite};
 
@@ -142,5 +142,39 @@ fn responses_are_those_of_another_program(rt: HostRuntime) {
             value91(suite, method, &key, &ac, arc, csu).as_slice(),
             value
         );
+    }
+}
+
+/// The rows of triple DES, each several times, are made in lanes; the others have indices without an answer.
+#[test]
+fn responses_made_ahead_are_those_of_another_program(rt: HostRuntime) {
+    let mut batch = AnswerBatch::new();
+    for index in 0..128 {
+        let (suite, method, key, ac, arc, csu, _, _) = RESPONSES[index % 12];
+        let parts = parts_of(method, key, ac, arc, csu);
+        batch.add(Some(parts).filter(|_| suite.goes_in_lanes()));
+    }
+    assert!(rt; batch.get(0).is_none());
+    batch.make();
+    for index in 0..128 {
+        let (suite, method, key, ac, arc, csu, _, value) = RESPONSES[index % 12];
+        let parts = parts_of(method, key, ac, arc, csu);
+        let made = batch
+            .get(index)
+            .and_then(|made| made.value_for(suite, &parts));
+        assert!(rt; made.is_some() == suite.goes_in_lanes());
+        if let Some(made) = made {
+            assert_eq!(rt; made.as_slice(), value);
+        }
+    }
+}
+
+fn parts_of(method: Method, key: u128, ac: u64, arc: [u8; 2], csu: [u8; 4]) -> AnswerParts {
+    AnswerParts {
+        method,
+        key: Key16(key.to_be_bytes()),
+        ac: ac.to_be_bytes(),
+        arc,
+        csu,
     }
 }

@@ -1,6 +1,4 @@
 -- By either suite it is the block of that suite.
-use Rattle.std.proofs.Common.{ap, ◌∙◌}
-use Rattle.arpc_methods.specs.Arpc.{eight_of}
 use Rattle.arpc_methods.proofs.enciphered.Goals as goal
 
 pub returns-in-TripleDes : goal.returns-in-TripleDes
