@@ -14,7 +14,9 @@ ghost use Rattle.issuer_base.specs.declared.limits.TheConstants.{OLD_WINDOW, WIN
 
 use crate::row::Row;
 use crate::scripts::Launch;
+use arpc_methods::{AnswerParts, MadeAhead};
 use arrayvec::ArrayVec;
+use des_block::Key16;
 use issuer_base::{Method, OLD_WINDOW, Reply, Request, WINDOW};
 use key_derive::{LazyKeys, SessionKey};
 use reply_keep::KeptEntry;
@@ -50,7 +52,7 @@ impl Row {
             → StandsFor card self.new (history ++ Entry.Decided request reply ∷ []) }
         ensures unchanged { result ≡ false → self.new ≡ self.old }
     {
-        let Some(accepted) = self.accept(WINDOW, session, keys, &request, &reply) else {
+        let Some(accepted) = self.accept(WINDOW, session, keys, &request, &reply, None) else {
             return false;
         };
         self.apply(&request, &reply, accepted.launch, place);
@@ -95,13 +97,15 @@ impl Row {
             → card_of request.now ≡ name_of card
             → (IsTrue result ↔ IsValidSuccessor WINDOW card.method keys.now history request.now reply.now) }
     {
-        self.accept(WINDOW, session, keys, request, reply).is_some()
+        self.accept(WINDOW, session, keys, request, reply, None)
+            .is_some()
     }
 
     /// Accepts a recorded decision of a journal with a window of so many ATCs, if it is a valid successor. Nothing changes
     /// yet: [`Row::apply`] adds it, with the launch that is accepted, as long as the row is unchanged.
     ///
-    /// `session` and `keys` are those that [`Row::adopt`] takes.
+    /// `session` and `keys` are those that [`Row::adopt`] takes. The ARPC isn't computed again if `made` is that of this
+    /// decision, by [`answer_parts`]; it changes nothing else.
     pub fn accept(
         &self,
         window: u16,
@@ -109,6 +113,7 @@ impl Row {
         keys: &LazyKeys,
         request: &Request,
         reply: &Reply,
+        made: Option<&MadeAhead>,
     ) -> Option<Accepted>
         requires session { session.now ≡ session_of keys.now request.now.atc }
         requires window { window ≤ WINDOW }
@@ -124,7 +129,7 @@ impl Row {
             return None;
         }
         let launch = self.launch(request);
-        if !self.is_made(session, keys, request, launch, reply) {
+        if !self.is_made(session, keys, request, launch, reply, made) {
             return None;
         }
         Some(Accepted { launch })
@@ -146,6 +151,7 @@ impl Row {
         request: &Request,
         launch: Option<Launch>,
         reply: &Reply,
+        made: Option<&MadeAhead>,
     ) -> bool
         requires session { session.now ≡ session_of keys.now request.now.atc }
         requires launch { IsLaunchFor self.now request.now launch }
@@ -158,9 +164,29 @@ impl Row {
         }
         let mut bytes = ArrayVec::new();
         self.write_reply(
-            &mut bytes, session, keys, request, launch, reply.arc, update,
+            &mut bytes, session, keys, request, launch, reply.arc, update, made,
         );
         bytes == reply.bytes
+    }
+}
+
+/// What the issuer authentication data of a recorded decision of a card of this method are made of. `key` is the session
+/// key for the cryptograms of its transaction.
+pub fn answer_parts(method: Method, key: Key16, request: &Request, reply: &Reply) -> AnswerParts
+    ensures { result ≡ record {
+      method = method;
+      key = key;
+      ac = request.now.ac;
+      arc = reply.now.arc;
+      csu = told_update reply.now.bytes.items;
+    } }
+{
+    AnswerParts {
+        method,
+        key,
+        ac: request.parts().ac,
+        arc: reply.arc,
+        csu: told_update(reply.bytes.as_slice()),
     }
 }
 

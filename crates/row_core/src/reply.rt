@@ -3,11 +3,12 @@ ghost use Rattle.std.specs.Prelude.{◌≡◌, ◌+◌, ◌≤◌, [], ◌++◌,
 ghost use Rattle.issuer_base.specs.ScriptCommand.{is_command};
 ghost use Rattle.issuer_base.specs.ScriptTemplate.{template_size};
 ghost use Rattle.tlv_objects.specs.Writing.{is_tag_number, object_text};
+ghost use Rattle.arpc_methods.specs.Arpc.{value91};
 ghost use Rattle.key_derive.specs.SessionKey.{session_sm};
 ghost use Rattle.secure_msg.specs.Batch.{IsBatch, template_bytes};
 ghost use Rattle.row_core.specs.Replying.{answer_bytes, script_bytes};
 
-use arpc_methods::value91;
+use arpc_methods::{AnswerParts, MadeAhead, value91};
 use arrayvec::ArrayVec;
 use issuer_base::{Command, MAX_TEMPLATE_BYTES, Method, Request};
 use key_derive::{LazyKeys, SessionKey, session_sm};
@@ -21,7 +22,7 @@ const RESPONSE_CODE: u32 = 0x8A;
 const AUTHENTICATION_DATA: u32 = 0x91;
 
 /// Writes the response code and the ARPC, by method 2 that of the card status update, into empty bytes. `session` is
-/// the session key for cryptograms of the request's transaction.
+/// the session key for cryptograms of the request's transaction. The ARPC isn't computed again if it was made ahead.
 pub(crate) fn write_answer(
     bytes: &mut ArrayVec<u8, ROOM>,
     method: Method,
@@ -29,16 +30,43 @@ pub(crate) fn write_answer(
     request: &Request,
     arc: [u8; 2],
     csu: [u8; 4],
+    made: Option<&MadeAhead>,
 )
     requires { bytes.old.items ≡ [] }
     ensures exact { bytes.new.items ≡ answer_bytes method session.now request.now arc csu }
     ensures room { length bytes.new.items + MAX_TEMPLATE_BYTES ≤ ROOM }
     ensures some { 1 ≤ length bytes.new.items }
 {
-    let (suite, key) = (session.suite(), session.key());
-    let value = value91(suite, method, key, &request.parts().ac, arc, csu);
+    let value = authentication_data(method, session, request, arc, csu, made);
     write(bytes, RESPONSE_CODE, &arc);
     write(bytes, AUTHENTICATION_DATA, value.as_slice());
+}
+
+/// The value of tag 91: the one that was made ahead, if it was made of these data.
+fn authentication_data(
+    method: Method,
+    session: &SessionKey,
+    request: &Request,
+    arc: [u8; 2],
+    csu: [u8; 4],
+    made: Option<&MadeAhead>,
+) -> ArrayVec<u8, 16>
+    ensures { result.items ≡ value91 session.now.suite method session.now.key request.now.ac arc csu }
+{
+    let (suite, key, ac) = (session.suite(), session.key(), &request.parts().ac);
+    if let Some(made) = made {
+        let parts = AnswerParts {
+            method,
+            key: *key,
+            ac: *ac,
+            arc,
+            csu,
+        };
+        if let Some(value) = made.value_for(suite, &parts) {
+            return value;
+        }
+    }
+    value91(suite, method, key, ac, arc, csu)
 }
 
 /// Appends an object to bytes that leave room for it.

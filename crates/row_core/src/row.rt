@@ -18,6 +18,7 @@ ghost use Rattle.row_core.specs.Plan.{IsPlan, IsStep, IsStepped, IsNext, with_re
 
 use crate::reply::{write_answer, write_scripts};
 use crate::scripts::{CardScripts, Launch};
+use arpc_methods::MadeAhead;
 use arrayvec::ArrayVec;
 use card_history::CardView;
 use cvr_settle::Flight;
@@ -256,6 +257,7 @@ impl Row {
             launch,
             row.arc,
             row.csu,
+            None,
         );
         launch
     }
@@ -333,7 +335,7 @@ impl Row {
     }
 
     /// Writes what goes to the card with this response code and, by method 2, this card status update, into empty
-    /// bytes: the issuer's answer, and the batch of the launch.
+    /// bytes: the issuer's answer, whose ARPC may have been made ahead, and the batch of the launch.
     pub(crate) fn write_reply(
         &self,
         bytes: &mut ArrayVec<u8, MAX_REPLY_BYTES>,
@@ -343,6 +345,7 @@ impl Row {
         launch: Option<Launch>,
         arc: [u8; 2],
         csu: [u8; 4],
+        made: Option<&MadeAhead>,
     )
         requires empty { bytes.old.items ≡ [] }
         requires session { session.now ≡ session_of keys.now request.now.atc }
@@ -352,7 +355,7 @@ impl Row {
         ensures some { 1 ≤ length bytes.new.items }
         ensures code { length arc ≡ 2 }
     {
-        write_answer(bytes, self.method, session, request, arc, csu);
+        write_answer(bytes, self.method, session, request, arc, csu, made);
         if let Some(launch) = launch {
             self.write_batch(bytes, keys, request, launch);
         }

@@ -18,3 +18,4 @@ pub mod Room
 pub mod Taking
 pub use Rattle.row_core.specs.Replying
 pub use Rattle.row_core.specs.CardRow
+pub mod Answers

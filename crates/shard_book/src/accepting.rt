@@ -17,6 +17,7 @@ ghost use Rattle.shard_book.specs.Steps.{Accepts, IsLaunchAt};
 
 use crate::replay::Version;
 use crate::rows::Rows;
+use arpc_methods::MadeAhead;
 use issuer_base::{Entry, MAX_STATUS, Refusal, Reply};
 use issuer_setup::Issuer;
 use line_checks::{
@@ -35,14 +36,16 @@ pub(crate) enum AcceptedRecord<'a> {
 }
 
 impl Rows {
-    /// Accepts a record of a journal of this version if it is a valid successor. `found` is what was looked up for it.
-    /// Nothing changes yet: [`Rows::apply_record`] adds it.
+    /// Accepts a record of a journal of this version if it is a valid successor. `found` is what was looked up for it,
+    /// and `made` its issuer authentication data, if they were made ahead. Nothing changes yet: [`Rows::apply_record`]
+    /// adds it.
     pub(crate) fn accept<'a>(
         &self,
         version: Version,
         issuer: &Issuer,
         entry: &'a Entry,
         found: &'a Result<LookedUp, Refusal>,
+        made: Option<&MadeAhead>,
     ) -> Option<AcceptedRecord<'a>>
         requires rows { AreRowsOf issuer.now self.now }
         requires form { IsTrue (is_record entry.now) }
@@ -59,7 +62,7 @@ impl Rows {
                 let Entry::Decided { reply, .. } = entry else {
                     return None;
                 };
-                self.accept_decision(version, issuer, sought, reply)
+                self.accept_decision(version, issuer, sought, reply, made)
             }
             LookedUp::Order(order) => {
                 if !self.accepts_order(issuer, order) {
@@ -77,6 +80,7 @@ impl Rows {
         issuer: &Issuer,
         sought: &LookedUpRequest,
         reply: &'a Reply,
+        made: Option<&MadeAhead>,
     ) -> Option<AcceptedRecord<'a>>
         requires rows { AreRowsOf issuer.now self.now }
         requires known { HasKeysAtHand issuer.now sought.now }
@@ -92,7 +96,7 @@ impl Rows {
         if issuer.shard_of(found.card) != self.shard() {
             return None;
         }
-        let Some(accepted) = self.accept_checked(version, &found, reply) else {
+        let Some(accepted) = self.accept_checked(version, &found, reply, made) else {
             return None;
         };
         Some(AcceptedRecord::Decision(found, reply, accepted.launch))
@@ -104,6 +108,7 @@ impl Rows {
         version: Version,
         found: &CheckedRequest,
         reply: &Reply,
+        made: Option<&MadeAhead>,
     ) -> Option<Accepted>
         requires home { IsHome self.now found.now.card }
         requires session { found.now.session ≡ session_of found.now.keys found.now.request.atc }
@@ -116,6 +121,7 @@ impl Rows {
             &found.keys,
             &found.request,
             reply,
+            made,
         )
     }
 

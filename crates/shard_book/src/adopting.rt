@@ -14,19 +14,21 @@ ghost use Rattle.shard_book.specs.ShardRows.{AreRowsOf, AreSame, IsHome, RowsSta
 use crate::accepting::AcceptedRecord;
 use crate::replay::Version;
 use crate::rows::Rows;
+use arpc_methods::MadeAhead;
 use issuer_base::{Entry, Refusal};
 use issuer_setup::Issuer;
 use line_checks::{CheckedOrder, LookedUp};
 
 impl Rows {
-    /// Replays the record with this index if it is a valid successor. `found` is what was looked up for it. The result is
-    /// whether it is.
+    /// Replays the record with this index if it is a valid successor. `found` is what was looked up for it, and `made` its
+    /// issuer authentication data, if they were made ahead. The result is whether it is.
     pub(crate) fn adopt(
         &mut self,
         version: Version,
         issuer: &Issuer,
         entry: &Entry,
         found: &Result<LookedUp, Refusal>,
+        made: Option<&MadeAhead>,
         place: u64,
     ) -> bool
         requires rows { AreRowsOf issuer.now self.old }
@@ -38,7 +40,7 @@ impl Rows {
             → place ≡ length history → RowsStandFor issuer.now self.new (history ++ entry.now ∷ []) }
         ensures same { AreSame self.old self.new }
     {
-        let Some(accepted) = self.accept(version, issuer, entry, found) else {
+        let Some(accepted) = self.accept(version, issuer, entry, found, made) else {
             return false;
         };
         self.apply_record(&accepted, place);

@@ -1,11 +1,14 @@
 //! Reads the records of a journal's next lines ahead, so that the cryptograms of their requests are checked together.
 ghost use Rattle.std.specs.Prelude.{◌≡◌, ◌≤◌, ◌<◌, ℕ, [], ◌∷◌, ◌++◌, length, slice_get, take, drop, Some};
+ghost use Rattle.std.specs.List.{AllZip};
 ghost use Rattle.issuer_base.specs.declared.entry.Entry.{Entry};
 ghost use Rattle.line_checks.specs.declared.lines_ahead.TheConstants.{MOST_AHEAD};
 ghost use Rattle.shard_book.specs.LineAhead.{IsLineAhead};
 ghost use Rattle.shard_book.specs.ReadAhead.{IsLookedUp, AreLookedUp, AreNext, IsNoRecord};
 
+use crate::answers::add_answer;
 use crate::newline::next_newline;
+use arpc_methods::{AnswerBatch, MadeAhead};
 use issuer_base::{Entry, NoMemory, Refusal};
 use issuer_setup::Issuer;
 use journal_rec::read_entry;
@@ -15,13 +18,15 @@ use line_checks::{
 use std::alloc::Global;
 use std::marker::Model;
 
-/// The records of lines that were read ahead, and what was looked up for each.
+/// The records of lines that were read ahead, what was looked up for each, and the issuer authentication data that were
+/// made for them, if any.
 ///
-/// A contract sees both lists.
+/// A contract sees the lists of records and look-ups.
 #[derive(Drop)]
 pub(crate) struct Ahead {
     entries: Vec<Entry>,
     found: LinesAhead,
+    answers: AnswerBatch,
 }
 
 impl Model for Ahead {
@@ -41,7 +46,11 @@ impl Ahead {
     pub(crate) fn new(alloc: Global) -> Result<Ahead, NoMemory> {
         let entries = Vec::with_capacity(alloc, MOST_AHEAD)?;
         let found = LinesAhead::new(alloc)?;
-        Ok(Ahead { entries, found })
+        Ok(Ahead {
+            entries,
+            found,
+            answers: AnswerBatch::new(),
+        })
     }
 
     /// How many records there are.
@@ -66,9 +75,14 @@ impl Ahead {
         self.found.get(index).unwrap()
     }
 
+    /// The issuer authentication data that were made for the record with this index, if they were.
+    pub(crate) fn made(&self, index: usize) -> Option<MadeAhead> {
+        self.answers.get(index)
+    }
+
     /// Reads up to [`MOST_AHEAD`] whole lines of a text from an offset on, as far as they are those of records, in place of
-    /// what was read before. The card of each record is looked up, and the cryptograms of their requests are checked together.
-    /// Returns the offset of their end.
+    /// what was read before. The card of each record is looked up, the cryptograms of their requests are checked together,
+    /// and their issuer authentication data made together. Returns the offset of their end.
     pub(crate) fn read(&mut self, issuer: &Issuer, text: &[u8], from: usize) -> usize
         requires { from ≤ length text.now }
         ensures next { AreNext text.now from self.new.entries result }
@@ -80,6 +94,13 @@ impl Ahead {
         self.found.clear();
         let end = self.read_lines(issuer, text, from);
         self.found.check(issuer);
+        add_answers(
+            issuer,
+            self.entries.as_slice(),
+            &self.found,
+            &mut self.answers,
+        );
+        self.answers.make();
         end
     }
 
@@ -115,6 +136,17 @@ impl Ahead {
     {
         self.found.add(look_up_record(issuer, &entry));
         self.entries.push_reserved(entry);
+    }
+}
+
+/// Adds the answers of records, for which this was looked up, to none.
+fn add_answers(issuer: &Issuer, entries: &[Entry], found: &LinesAhead, batch: &mut AnswerBatch)
+    requires { AllZip (IsLookedUp issuer.now) entries.now found.now }
+    ensures { length batch.new ≡ length entries.now }
+{
+    batch.clear();
+    for index in 0..found.len() {
+        add_answer(issuer, &entries[index], found.get(index).unwrap(), batch);
     }
 }
 

@@ -4,6 +4,7 @@
 mod accepting;
 mod adopting;
 mod ahead;
+mod answers;
 mod loading;
 mod migrating;
 mod newline;
@@ -14,6 +15,7 @@ mod shard;
 mod taking;
 
 pub use ahead::look_up_record;
+pub use answers::add_answer;
 pub use newline::{first_newline, has_newline};
 pub use replay::{LoadFault, Version};
 pub use shard::{LoadBack, Shard};

@@ -167,7 +167,8 @@ impl Rows {
     {
         for (i, entry) in ahead.entries().iter().enumerate() {
             let place = place + i as u64;
-            if !self.adopt(version, issuer, entry, ahead.found(i), place) {
+            let made = ahead.made(i);
+            if !self.adopt(version, issuer, entry, ahead.found(i), made.as_ref(), place) {
                 return Err(version.bad_record(place));
             }
         }

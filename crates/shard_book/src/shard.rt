@@ -26,6 +26,7 @@ use crate::loading::take_over;
 use crate::replay::{LoadFault, Taken, TakenOver, Version};
 use crate::rows::Rows;
 use crate::taking::TakeFault;
+use arpc_methods::MadeAhead;
 use arrayvec::ArrayVec;
 use issuer_base::{
     Answer, Entry, MAX_FAULTS_REPORTED, NoMemory, Refusal, Reply, Request, Store, StoreFail,
@@ -181,17 +182,19 @@ impl<S: Store> Shard<S> {
         ensures kept { KeepsReplica issuer.now self.old result self.new }
     {
         let found = look_up_record(issuer, entry);
-        self.take_looked_up(issuer, entry, write_entry(entry).as_slice(), &found)
+        self.take_looked_up(issuer, entry, write_entry(entry).as_slice(), &found, None)
     }
 
     /// Takes a record as [`Shard::take`] does, and appends this text, which is the record's. `found` is what
-    /// [`look_up_record`] gave for it, possibly with the verdict of [`check_in_lanes`](line_checks::check_in_lanes).
+    /// [`look_up_record`] gave for it, possibly with the verdict of [`check_in_lanes`](line_checks::check_in_lanes). The
+    /// ARPC isn't computed again if `made` has it, by [`add_answer`](crate::add_answer); it changes nothing else.
     pub fn take_looked_up(
         &mut self,
         issuer: &Issuer,
         entry: &Entry,
         text: &[u8],
         found: &Result<LookedUp, Refusal>,
+        made: Option<&MadeAhead>,
     ) -> Result<u64, TakeFault>
         requires under { IsUnder issuer.now self.old }
         requires read { IsReadRecord issuer.now entry.now text.now found.now }
@@ -203,7 +206,7 @@ impl<S: Store> Shard<S> {
         ensures room { UsesRoom (most_of entry.now) (is_failed_store result) self.old self.new }
         ensures kept { KeepsReplica issuer.now self.old result self.new }
     {
-        let Some(accepted) = self.rows.accept(Version::Two, issuer, entry, found) else {
+        let Some(accepted) = self.rows.accept(Version::Two, issuer, entry, found, made) else {
             return Err(TakeFault::NotLegal);
         };
         let Ok(place) = self.put_text(text) else {

@@ -3,8 +3,9 @@ ghost use Rattle.std.specs.Prelude.{◌≡◌, ◌↔◌, ◌<◌, ◌≤◌, []
 ghost use Rattle.line_checks.specs.declared.lines_ahead.TheConstants.{MOST_AHEAD};
 ghost use Rattle.standby_node.specs.KeptTexts.{HaveTexts};
 
-use crate::line::{ReadLine, look_up_line};
+use crate::line::{ReadLine, add_answers, look_up_line};
 use crate::texts::PackedTexts;
+use arpc_methods::{AnswerBatch, MadeAhead};
 use issuer_base::{NoMemory, Refusal};
 use issuer_setup::Issuer;
 use line_checks::{LookedUp, MOST_AHEAD, check_in_lanes};
@@ -18,6 +19,9 @@ pub struct FeedLines {
     /// For each line the text of its record, with its newline. Of a line without a record no text counts.
     record_texts: PackedTexts,
     found: Vec<Result<LookedUp, Refusal>>,
+
+    /// The answers of the records, by the indices of the lines, once they are checked.
+    answers: AnswerBatch,
     ghost room: { MOST_AHEAD ≤ vec_capacity lines },
     ghost room_found: { MOST_AHEAD ≤ vec_capacity found },
     ghost room_texts: { MOST_AHEAD ≤ record_texts.room },
@@ -44,6 +48,7 @@ impl FeedLines {
             lines,
             record_texts,
             found,
+            answers: AnswerBatch::new(),
         })
     }
 
@@ -68,6 +73,11 @@ impl FeedLines {
         self.found.as_slice()
     }
 
+    /// The issuer authentication data that were made for the record of the line at this index, if they were.
+    pub(crate) fn made(&self, place: usize) -> Option<MadeAhead> {
+        self.answers.get(place)
+    }
+
     /// The text of the record of the line at this index, with its newline.
     pub(crate) fn text(&self, place: usize) -> &[u8]
         requires { place < length self.now.lines.items }
@@ -90,7 +100,7 @@ impl FeedLines {
         self.lines.push_reserved(line);
     }
 
-    /// Checks the cryptograms of the requests together.
+    /// Checks the cryptograms of the requests together, and makes the issuer authentication data of their records.
     pub(crate) fn check(&mut self, issuer: &Issuer)
         requires ready { AreReady issuer.now self.old }
         requires few { length self.old.lines.items ≤ MOST_AHEAD }
@@ -98,6 +108,13 @@ impl FeedLines {
         ensures lines { self.new.lines.items ≡ self.old.lines.items }
     {
         check_in_lanes(issuer, self.found.as_mut_slice());
+        add_answers(
+            issuer,
+            self.lines.as_slice(),
+            self.found.as_slice(),
+            &mut self.answers,
+        );
+        self.answers.make();
     }
 
     /// Removes all.
@@ -107,5 +124,6 @@ impl FeedLines {
         self.lines.clear();
         self.record_texts.clear();
         self.found.clear();
+        self.answers.clear();
     }
 }

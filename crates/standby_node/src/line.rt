@@ -1,5 +1,7 @@
 //! One whole line of a feed, taken into the shards of a node.
-ghost use Rattle.std.specs.Prelude.{◌≡◌, ℕ, ◌<◌, Bool, List, length};
+ghost use Rattle.std.specs.Prelude.{◌≡◌, ℕ, ◌+◌, ◌<◌, ◌≤◌, Bool, List, length};
+ghost use Rattle.std.specs.List.{AllZip};
+ghost use Rattle.line_checks.specs.declared.lines_ahead.TheConstants.{MOST_AHEAD};
 ghost use Rattle.issuer_base.specs.declared.entry.Entry.{Entry};
 ghost use Rattle.host_loading.specs.Hosts.{AreShards};
 ghost use Rattle.shard_book.specs.Calls.{KeepsCall};
@@ -13,6 +15,7 @@ ghost use Rattle.standby_node.specs.KeptTexts.{HasText};
 ghost use Rattle.standby_node.specs.ReadLines.{IsFormed, IsReadAs, IsReady};
 ghost use Rattle.standby_node.specs.Standing.{Hold, KeepsShards, LeavesBetween};
 
+use arpc_methods::{AnswerBatch, MadeAhead};
 use arrayvec::ArrayVec;
 use feed_text::{MOST_FEED_BYTES, read_head};
 use issuer_base::{Entry, Refusal, Store};
@@ -20,7 +23,7 @@ use issuer_setup::Issuer;
 use journal_rec::read_entry;
 use line_checks::LookedUp;
 use line_reader::NEWLINE;
-use shard_book::{Shard, TakeFault, look_up_record};
+use shard_book::{Shard, TakeFault, add_answer, look_up_record};
 
 /// Why a standby stops.
 #[derive(Clone, Copy, PartialEq, Eq, Debug)]
@@ -67,7 +70,7 @@ pub(crate) fn take_line<S: Store>(
     let (read, rest) = read_line(shards, issuer, line);
     let found = look_up_line(issuer, &read);
     let text = ended(rest);
-    take_read(shards, issuer, &read, text.as_slice(), &found, number)
+    take_read(shards, issuer, &read, text.as_slice(), &found, None, number)
 }
 
 /// Reads a whole line, without its newline, for the shards of an issuer. Beside it stands the text of its record.
@@ -132,14 +135,49 @@ pub(crate) fn look_up_line(issuer: &Issuer, line: &ReadLine) -> Result<LookedUp,
     }
 }
 
+/// Adds the answers of the records of lines, for which this was looked up, to none.
+pub(crate) fn add_answers(
+    issuer: &Issuer,
+    lines: &[ReadLine],
+    found: &[Result<LookedUp, Refusal>],
+    batch: &mut AnswerBatch,
+)
+    requires ready { AllZip (IsReady issuer.now) lines.now found.now }
+    requires few { length lines.now ≤ MOST_AHEAD }
+    ensures { length batch.new ≡ length lines.now }
+{
+    batch.clear();
+    for (i, line) in lines.iter().enumerate() {
+        add_answer_of(issuer, line, &found[i], batch);
+    }
+}
+
+/// Adds what the issuer authentication data of a line's record are made of, if they are to be made ahead.
+fn add_answer_of(
+    issuer: &Issuer,
+    line: &ReadLine,
+    found: &Result<LookedUp, Refusal>,
+    batch: &mut AnswerBatch,
+)
+    requires line { IsReady issuer.now line.now found.now }
+    requires room { length batch.old < 128 }
+    ensures { length batch.new ≡ length batch.old + 1 }
+{
+    match line {
+        ReadLine::Record { entry, .. } => add_answer(issuer, entry, found, batch),
+        _ => batch.add(None),
+    }
+}
+
 /// Takes the line with this number, which was read ahead, into the shards of an issuer. The text is its record's, with
-/// its newline.
+/// its newline, and `made` has the record's issuer authentication data, if they were made ahead.
 pub(crate) fn take_read<S: Store>(
     shards: &mut Vec<Shard<S>>,
     issuer: &Issuer,
     line: &ReadLine,
     text: &[u8],
     found: &Result<LookedUp, Refusal>,
+    made: Option<&MadeAhead>,
     number: u64,
 ) -> Result<(), FeedFault>
     requires shards { AreShards issuer.now shards.old.items }
@@ -172,6 +210,7 @@ pub(crate) fn take_read<S: Store>(
             entry,
             text,
             found,
+            made,
         ) {
             Ok(()) => Ok(()),
             Err(TakeFault::NotLegal) => Err(FeedFault::BadFeed(number)),
@@ -189,6 +228,7 @@ fn take_next<S: Store>(
     entry: &Entry,
     text: &[u8],
     found: &Result<LookedUp, Refusal>,
+    made: Option<&MadeAhead>,
 ) -> Result<(), TakeFault>
     requires under { IsUnder issuer.now shard.old }
     requires read { IsReadRecord issuer.now entry.now text.now found.now }
@@ -200,7 +240,7 @@ fn take_next<S: Store>(
     if place != shard.places() {
         return Ok(());
     }
-    match shard.take_looked_up(issuer, entry, text, found) {
+    match shard.take_looked_up(issuer, entry, text, found, made) {
         Ok(_) => Ok(()),
         Err(fault) => Err(fault),
     }

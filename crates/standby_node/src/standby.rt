@@ -163,12 +163,14 @@ impl<S: Store> Standby<S> {
         let found = ahead.found();
         for (i, line) in ahead.lines().iter().enumerate() {
             self.lines = self.lines.saturating_add(1);
+            let made = ahead.made(i);
             match take_read(
                 &mut self.shards,
                 issuer,
                 line,
                 ahead.text(i),
                 &found[i],
+                made.as_ref(),
                 self.lines,
             ) {
                 Ok(()) => {}

@@ -1,5 +1,5 @@
 -- One more line, whose record is added.
-use Rattle.std.proofs.Common.{◌≡◌, ◌+◌, ◌-◌, List, length, take, drop, ap, sym, subst, arith}
+use Rattle.std.proofs.Common.{◌≡◌, ◌+◌, ◌-◌, List, take, drop, ap, sym, subst, arith}
 use Rattle.std.proofs.lemmas.Slice.Zip.{AllZip-long}
 use Rattle.issuer_base.specs.declared.entry.Entry.{Entry}
 use Rattle.shard_book.specs.ReadAhead.{AreNext, IsLookedUp}
