@@ -140,6 +140,9 @@ fn sync_file(file: &File, len: u64, is_end_sure: &mut bool) -> io::Result<()> {
 /// After a failed sync, the system may drop what it could not write from its list, and the next sync
 /// succeeds without it. At most one record of a journal is in doubt, or one step of its migration, and
 /// it is the last.
+///
+/// It is a function of its own, so that other syncs don't pay for its buffer.
+#[inline(never)]
 fn rewrite_end(file: &File, len: u64) -> io::Result<()> {
     if len == 0 {
         return Ok(());
