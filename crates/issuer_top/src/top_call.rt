@@ -174,7 +174,7 @@ where
             result.status seen }
     {
         let Loaded { mut host, olds } = loaded;
-        let mut server = match Server::new(run.alloc) {
+        let mut server = match Server::new(run.alloc, &host) {
             Ok(server) => server,
             Err(NoMemory) => {
                 let stores = host.close();

@@ -1,19 +1,22 @@
 //! Answers that are due, and are written together.
-ghost use Rattle.std.specs.Prelude.{◌≡◌, ◌+◌, ◌*◌, ◌<◌, ◌≤◌, ◌==◌, [], ◌++◌, length, vec_len, vec_capacity, is_err};
-ghost use Rattle.std.specs.Prelude.{IfOk};
+ghost use Rattle.std.specs.Prelude.{◌≡◌, ◌↔◌, ◌+◌, ◌*◌, ◌<◌, ◌≤◌, [], ◌++◌, length, vec_len, vec_capacity, is_err};
+ghost use Rattle.std.specs.Prelude.{IfOk, IsTrue};
 ghost use Rattle.issuer_base.specs.OutsideFaults.{CountsFaults};
 ghost use Rattle.issuer_base.specs.Sink.{WritesAll};
 ghost use Rattle.answer_text.specs.AnswerText.{printed};
 ghost use Rattle.answer_text.specs.declared.words.TheConstants.{LINE_ROOM};
-ghost use Rattle.line_blocks.specs.declared.block.TheConstants.{BLOCK_LINES, BLOCK_ROOM};
+ghost use Rattle.line_blocks.specs.declared.block.TheConstants.{BLOCK_LINES, BLOCK_ROOM, FULL_LINES};
 
 use answer_text::{LINE_ROOM, write_answer};
 use arrayvec::ArrayVec;
 use issuer_base::{Answer, NoMemory, Sink, WriteFault, write_all};
 use std::alloc::Global;
 
-/// How many lines a block has, at most; so many lines may wait before they are answered.
-pub const BLOCK_LINES: usize = 2_048;
+/// How many lines a block has, at most: as many as may wait for several callers before they are answered.
+pub const BLOCK_LINES: usize = 8_192;
+
+/// How many lines a full block has, which is to be written.
+pub const FULL_LINES: usize = 2_048;
 
 /// How many bytes their answers have, at most.
 const BLOCK_ROOM: usize = BLOCK_LINES * LINE_ROOM;
@@ -50,11 +53,11 @@ impl Block {
         self.lines
     }
 
-    /// Whether it has the answers of as many lines as it takes.
+    /// Whether it has as many lines as a full block, and is to be written.
     pub fn is_full(&self) -> bool
-        ensures { result ≡ (self.now.lines == BLOCK_LINES) }
+        ensures { IsTrue result ↔ (FULL_LINES ≤ self.now.lines) }
     {
-        self.lines == BLOCK_LINES
+        self.lines >= FULL_LINES
     }
 
     /// Puts an answer behind those that are there.

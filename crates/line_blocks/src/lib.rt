@@ -4,5 +4,5 @@
 mod block;
 mod served;
 
-pub use block::{BLOCK_LINES, Block};
+pub use block::{BLOCK_LINES, Block, FULL_LINES};
 pub use served::Served;

@@ -7,5 +7,5 @@ mod reader;
 mod window;
 
 pub use laws::lines_of_parts;
-pub use limits::{BUFFER_BYTES, MAX_BYTES, MAX_LINES, NEWLINE};
+pub use limits::{BUFFER_BYTES, MAX_BUFFER_BYTES, MAX_BYTES, MAX_LINES, NEWLINE};
 pub use reader::{LineReader, NextLine};

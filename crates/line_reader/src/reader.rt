@@ -1,13 +1,13 @@
 //! A reader of an input's lines, one at a time, within the limits of an input.
 ghost use Rattle.std.specs.Prelude.{◌≡◌, ℕ, ◌-◌, ◌<◌, ◌≤◌, List, true, false, IfOk, MatchBool, if◌then◌else◌, ◌==◌};
 ghost use Rattle.issuer_base.specs.OutsideFaults.{CountsFaults};
-ghost use Rattle.line_reader.specs.declared.limits.TheConstants.{MAX_BYTES, MAX_LINES};
+ghost use Rattle.line_reader.specs.declared.limits.TheConstants.{BUFFER_BYTES, MAX_BUFFER_BYTES, MAX_BYTES, MAX_LINES};
 ghost use Rattle.line_reader.specs.Lines.{IsFirstNewline, IsUnbroken};
 ghost use Rattle.line_reader.specs.Reading.{unread};
 ghost use Rattle.line_reader.specs.NextLine.{GivesInHand, GivesNone, IsNoneInHand};
 ghost use Rattle.line_reader.specs.NextLine.{GivesLine, GivesRest, ReachesEnd, StopsAtFault, StopsAtLimit, is_fault};
 
-use crate::limits::{MAX_BYTES, MAX_LINES};
+use crate::limits::{BUFFER_BYTES, MAX_BUFFER_BYTES, MAX_BYTES, MAX_LINES};
 use crate::window::{Passed, Window};
 use issuer_base::{NoMemory, ReadFault, Source};
 use std::alloc::Global;
@@ -28,7 +28,7 @@ pub enum NextLine {
     TooLong,
 }
 
-/// Reads an input line by line, through one buffer of [`BUFFER_BYTES`](crate::BUFFER_BYTES).
+/// Reads an input line by line, through one buffer.
 ///
 /// The reader is exhausted after [`NextLine::End`], [`NextLine::Fault`] or [`NextLine::TooLong`]; a later call is
 /// unspecified.
@@ -56,12 +56,20 @@ impl Model for LineReader {
 }
 
 impl LineReader {
-    /// A reader that has returned no line yet. Only this call allocates.
+    /// A reader that has returned no line yet, with a buffer of [`BUFFER_BYTES`]. No later call allocates.
     pub fn new(alloc: Global) -> Result<Self, NoMemory>
         ensures { IfOk result (λ reader. reader ≡ unread) }
     {
+        LineReader::with_buffer(alloc, BUFFER_BYTES)
+    }
+
+    /// A reader that has returned no line yet, with a buffer of this size in bytes. No later call allocates.
+    pub fn with_buffer(alloc: Global, size: usize) -> Result<Self, NoMemory>
+        requires { (BUFFER_BYTES ≤ size) × (size ≤ MAX_BUFFER_BYTES) }
+        ensures { IfOk result (λ reader. reader ≡ unread) }
+    {
         Ok(LineReader {
-            window: Window::new(alloc)?,
+            window: Window::new(alloc, size)?,
             lines: 0,
             bytes: 0,
         })

@@ -4,10 +4,10 @@ ghost use Rattle.std.specs.Prelude.{is_err, IfOk, MatchBool, MatchOption, MatchR
 ghost use Rattle.std.specs.Io.KnownBytes.{Keeps};
 ghost use Rattle.issuer_base.specs.OutsideFaults.{CountsFaults};
 ghost use Rattle.issuer_base.specs.declared.limits.TheConstants.{KEPT_BYTES};
-ghost use Rattle.line_reader.specs.declared.limits.TheConstants.{BUFFER_BYTES, NEWLINE};
+ghost use Rattle.line_reader.specs.declared.limits.TheConstants.{BUFFER_BYTES, MAX_BUFFER_BYTES, NEWLINE};
 ghost use Rattle.line_reader.specs.Lines.{IsUnbroken, IsFirstNewline};
 
-use crate::limits::{BUFFER_BYTES, NEWLINE};
+use crate::limits::NEWLINE;
 use issuer_base::{KEPT_BYTES, ReadFault, Source};
 use memchr::{memchr, memrchr};
 use std::alloc::{AllocError, Global};
@@ -34,12 +34,12 @@ pub(crate) struct Window {
     end: usize,
     // The offset after the last newline of the bytes read; at most `start` if the unread bytes have none.
     last_end: usize,
-    ghost sized: { vec_len bytes ≡ BUFFER_BYTES },
+    ghost sized: { (BUFFER_BYTES ≤ vec_len bytes) × (vec_len bytes ≤ MAX_BUFFER_BYTES) },
     ghost line_in_order: { line_start ≤ line_end },
     ghost line_kept: { line_end - line_start ≤ KEPT_BYTES },
     ghost line_passed: { line_end ≤ start },
     ghost ahead_in_order: { start ≤ end },
-    ghost in_bounds: { end ≤ BUFFER_BYTES },
+    ghost in_bounds: { end ≤ vec_len bytes },
     ghost last_within: { last_end ≤ end },
     ghost last_newline: { start < last_end → slice_index bytes.items (last_end - 1) ≡ NEWLINE },
     ghost none_behind: { (place : ℕ) → last_end ≤ place → place < end → slice_index bytes.items place ≢ NEWLINE },
@@ -48,12 +48,14 @@ pub(crate) struct Window {
 impl Window {
     ghost use Rattle.line_reader.specs.Window.{ahead_of, line_of, HasPassed, Passes, Gives};
 
-    pub(crate) fn new(alloc: Global) -> Result<Self, AllocError>
+    /// No bytes, and room for so many.
+    pub(crate) fn new(alloc: Global, size: usize) -> Result<Self, AllocError>
+        requires { (BUFFER_BYTES ≤ size) × (size ≤ MAX_BUFFER_BYTES) }
         ensures ahead { IfOk result (λ window. ahead_of window ≡ []) }
         ensures line { IfOk result (λ window. line_of window ≡ []) }
     {
         Ok(Window {
-            bytes: vec![in alloc; 0; BUFFER_BYTES]?,
+            bytes: vec![in alloc; 0; size]?,
             line_start: 0,
             line_end: 0,
             start: 0,

@@ -12,7 +12,7 @@ ghost use Rattle.desk_host.specs.Journals.{IsReadySolo};
 ghost use Rattle.desk_host.specs.SeenStores.{Logged, journals_seen};
 
 use issuer_base::{Gate, Sink, Store, WriteFault};
-use line_blocks::{BLOCK_LINES, Block};
+use line_blocks::{Block, FULL_LINES};
 use line_checks::LinesAhead;
 use one_caller::Solo;
 use std::sync::Wait;
@@ -52,7 +52,7 @@ impl<S: Store> AloneHost<S> {
         requires { MaySettleAlone self.now block.now.lines block.now.text.items }
         ensures { result ≡ false → TakesMoreAlone self.now block.now.lines block.now.text.items }
     {
-        block.lines() + self.ahead.len() == BLOCK_LINES
+        block.lines() + self.ahead.len() >= FULL_LINES
     }
 
     /// Takes the line with this number. If no line waits and no other is in hand, it is answered at once. Otherwise it

@@ -3,7 +3,7 @@ ghost use Rattle.std.specs.Prelude.{◌≡◌, ◌≤◌, ℕ, List, [], length,
 ghost use Rattle.issuer_base.specs.OutsideFaults.{CountsFaults};
 ghost use Rattle.issuer_base.specs.declared.limits.TheConstants.{KEPT_BYTES};
 ghost use Rattle.issuer_setup.specs.IssuerSetup.{Setup};
-ghost use Rattle.line_reader.specs.declared.limits.TheConstants.{MAX_LINES};
+ghost use Rattle.line_reader.specs.declared.limits.TheConstants.{BUFFER_BYTES, MAX_BUFFER_BYTES, MAX_LINES};
 ghost use Rattle.line_reader.specs.Reading.{kept};
 ghost use Rattle.desk_host.specs.Configuration.{HasSoundParts};
 ghost use Rattle.desk_host.specs.SeenStores.{Logged, journals_seen};
@@ -12,10 +12,14 @@ use crate::alone::AloneHost;
 use crate::together::{close_together, write_last_together, write_together};
 use issuer_base::{Gate, Sink, Store, WriteFault};
 use line_blocks::Block;
-use line_reader::LineReader;
+use line_reader::{BUFFER_BYTES, LineReader};
 use shared_callers::Lanes;
 use std::sync::Wait;
 use std::thread::Threads;
+
+/// The bytes of the reader's buffer for each line that may wait: a line of a request has some 320, so the buffer has the lines of
+/// three half blocks.
+const LINE_BYTES: usize = 1_024;
 
 /// The host of a run: with one caller, who answers one line after another, or with several, who answer lines together.
 pub enum LineHost<S: Store> {
@@ -30,6 +34,16 @@ impl<S: Store> LineHost<S> {
     ghost use Rattle.line_serving.specs.Leaving.{LeavesAnswered, LeavesLoaded};
     ghost use Rattle.line_serving.specs.Hosts.{callers_of, IsReady};
     ghost use Rattle.line_serving.specs.Hosts.{HasServed, MaySettle, HasRoom, IsSettled, IsIdle};
+
+    /// The size in bytes of the buffer through which its lines are read: of several callers [`LINE_BYTES`] for each line that may wait.
+    pub(crate) fn buffer_bytes(&self) -> usize
+        ensures { (BUFFER_BYTES ≤ result) × (result ≤ MAX_BUFFER_BYTES) }
+    {
+        match self {
+            LineHost::Alone(_) => BUFFER_BYTES,
+            LineHost::Together(lanes) => BUFFER_BYTES.max(lanes.room() * LINE_BYTES),
+        }
+    }
 
     /// Whether no other line is taken before the lines that wait are settled and the answers of the block are written.
     pub(crate) fn is_full(&self, block: &Block) -> bool

@@ -14,7 +14,7 @@ use arrayvec::ArrayVec;
 use clearing_check::{Book, PresentedAhead, write_open, write_total, write_verdict};
 use issuer_base::{NoMemory, Sink, Source, WriteFault};
 use issuer_setup::Issuer;
-use line_blocks::{BLOCK_LINES, Block, Served};
+use line_blocks::{Block, FULL_LINES, Served};
 use line_reader::{LineReader, NextLine};
 use std::alloc::Global;
 
@@ -176,7 +176,7 @@ impl Judge {
         requires { self.now.block.lines + length self.now.ahead.found ≤ BLOCK_LINES }
         ensures { result ≡ false → self.now.block.lines + length self.now.ahead.found < BLOCK_LINES }
     {
-        self.block.lines() + self.ahead.len() == BLOCK_LINES || !self.reader.has_line()
+        self.block.lines() + self.ahead.len() >= FULL_LINES || !self.reader.has_line()
     }
 
     /// Judges the lines that wait, writes what is left in the block, and says how the reading ended.

@@ -24,12 +24,12 @@ impl Server {
     ghost use Rattle.line_blocks.specs.Serving.{write_failed};
     ghost use Rattle.line_serving.specs.Hosts.{IsNew, HasServed, MaySettle, HasRoom, IsSettled};
 
-    /// All the memory that serving takes.
-    pub fn new(alloc: Global) -> Result<Self, NoMemory>
+    /// All the memory that serving lines of this host takes.
+    pub fn new<S: Store>(alloc: Global, host: &LineHost<S>) -> Result<Self, NoMemory>
         ensures { IfOk result IsNew }
     {
         Ok(Server {
-            reader: LineReader::new(alloc)?,
+            reader: LineReader::with_buffer(alloc, host.buffer_bytes())?,
             block: Block::new(alloc)?,
         })
     }

@@ -1,7 +1,7 @@
 -- The passes of lanes as they are split off, and the initial state of the lanes.
 use Rattle.std.proofs.Common.{◌≡◌, ℕ, ◌*◌, ◌/◌, ◌<◌, ◌≤◌, max, List, [], ◌∷◌, ◌++◌, length, All, refl, sym, ap, subst, ◌∙◌, append-nil, arith}
 use Rattle.std.proofs.lemmas.List.Elements.{All-push}
-use Rattle.std.proofs.Math.Nat.{div-mul-le_self, le_trans, le-div_iff_mul-le, max-le, mul_comm}
+use Rattle.std.proofs.Math.Nat.{div-le_of_le-mul, le_trans, max-le, le-max_right}
 use Rattle.std.specs.List.{flat_map}
 use Rattle.issuer_base.specs.declared.outside.store.Store.{Ghosts}
 use Rattle.issuer_setup.specs.IssuerSetup.{Setup}
@@ -113,14 +113,19 @@ new-dealt issuer opening lanes half waits dues new = record {
   had = new-all-had issuer opening lanes new;
 }
 
--- lines for each of so many, either as many as are checked together or a part of a few, are no more than the most
-pub each-most : (ahead few most callers : ℕ) → 0 < callers → callers * ahead ≤ most → few ≤ most → callers * max ahead (few / callers) ≤ most
-each-most ahead few most callers some checked fits =
-    let whole : ahead * callers ≤ most = subst (λ n. n ≤ most) (mul_comm callers ahead) checked in
-    let part : few / callers * callers ≤ most = le_trans (div-mul-le_self few callers) fits in
-    let each : max ahead (few / callers) ≤ most / callers =
-    max-le ((le-div_iff_mul-le some).1 whole) ((le-div_iff_mul-le some).1 part) in
-    subst (λ n. n ≤ most) (mul_comm (max ahead (few / callers)) callers) ((le-div_iff_mul-le some).0 each)
+-- each of up to 16 has at least as many lines as are checked together, and at most four times as many
+pub each-within : (callers each : ℕ) → 0 < callers → callers ≤ 16 → each ≡ max (512 / callers) (128 * max (callers / 4) 1)
+    → (128 ≤ each) × (each ≤ 512)
+each-within callers each some few is =
+    let part : 512 / callers ≤ 512 = div-le_of_le-mul callers (omega (arith, some)) in
+    let quarter : callers / 4 ≤ 4 = omega (arith, few) in
+    let times : max (callers / 4) 1 ≤ 4 = max-le quarter (omega arith) in
+    let once : 1 ≤ max (callers / 4) 1 = le-max_right _ _ in
+    let more : 128 * max (callers / 4) 1 ≤ 512 = omega (arith, times) in
+    let least : 128 ≤ 128 * max (callers / 4) 1 = omega (arith, once) in (
+      subst (λ each. 128 ≤ each) (sym is) (le_trans least (le-max_right _ _)),
+      subst (λ each. each ≤ 512) (sym is) (max-le part more),
+    )
 
 -- each of the parts has the same room
 pub rooms-all : (parts : List Part) (count each : ℕ) → All (λ (part : Part). part.lines.room ≡ each) parts

@@ -17,9 +17,12 @@ use line_blocks::Block;
 use line_checks::MOST_AHEAD;
 use line_reader::LineReader;
 
+/// How many lines of a half block are for each caller, at most: four times as many as are checked together.
+pub(crate) const MOST_EACH: usize = 4 * MOST_AHEAD;
+
 /// How many lines a half block has, at most: so many may wait, and so many answers be due. These are the lines of the
-/// most callers, each with as many as are checked together. Their answers fit a block.
-pub const HALF_LINES: usize = MAX_CALLERS as usize * MOST_AHEAD;
+/// most callers. Their answers fit a block.
+pub const HALF_LINES: usize = MAX_CALLERS as usize * MOST_EACH;
 
 /// A part for each caller, and whose turn it is: the lines of one half block, which wait, and the texts of the answers
 /// of the half block before, which are due.
@@ -69,6 +72,13 @@ impl HalfBlock {
             due: 0,
             room,
         }
+    }
+
+    /// How many lines may wait.
+    pub(crate) fn room(&self) -> usize
+        ensures { result ≡ self.now.room }
+    {
+        self.room
     }
 
     /// Whether no more line fits.

@@ -5,6 +5,7 @@ ghost use Rattle.issuer_base.specs.declared.answer.Answer.{Answer};
 ghost use Rattle.issuer_base.specs.declared.limits.TheConstants.{KEPT_BYTES};
 ghost use Rattle.shared_callers.specs.OneLane.{lane_rooms};
 ghost use Rattle.shared_callers.specs.Parts.{rooms_of};
+ghost use Rattle.shared_callers.specs.declared.half_block.TheConstants.{HALF_LINES};
 ghost use Rattle.shared_callers.specs.Seated.{AreSeated, IsPlain};
 
 use crate::half_block::HalfBlock;
@@ -46,6 +47,13 @@ impl<S: Store> Lanes<S> {
         ensures { result.now ≡ issuer_in self.now }
     {
         self.host.issuer()
+    }
+
+    /// How many lines may wait: those of a half block.
+    pub fn room(&self) -> usize
+        ensures { result ≤ HALF_LINES }
+    {
+        self.half.room()
     }
 
     /// Whether no more line fits before the waiting ones are answered.

@@ -8,9 +8,9 @@ ghost use Rattle.shared_shards.specs.ShardSeats.{opening_in};
 ghost use Rattle.shared_callers.specs.OneLane.{IsNewLane, places_in};
 ghost use Rattle.shared_callers.specs.Parts.{lines_of, texts_of};
 ghost use Rattle.shared_callers.specs.Seated.{AreSeated};
-ghost use Rattle.shared_callers.specs.declared.half_block.TheConstants.{HALF_LINES};
+ghost use Rattle.shared_callers.specs.declared.half_block.TheConstants.{MOST_EACH};
 
-use crate::half_block::{HALF_LINES, HalfBlock};
+use crate::half_block::{HalfBlock, MOST_EACH};
 use crate::lane::{Lane, LaneRoom};
 use crate::lanes::Lanes;
 use crate::part::Part;
@@ -87,19 +87,19 @@ impl<S: Store> Lanes<S> {
     }
 }
 
-/// How many lines of a half block are for each of so many callers: of up to four callers an equal part of 512, and of
-/// more as many as are checked together.
+/// How many lines of a half block are for each of so many callers: of up to four callers an equal part of 512. Of more it
+/// is as many as are checked together, for each four callers once: the more threads a half block takes, the more each of
+/// them costs.
 fn lines_each(callers: usize) -> usize
     requires { (0 < callers) × (callers ≤ MAX_CALLERS) }
-    ensures some { (MOST_AHEAD ≤ result) × (result ≤ HALF_LINES) }
-    ensures most { callers * result ≤ HALF_LINES }
+    ensures { (MOST_AHEAD ≤ result) × (result ≤ MOST_EACH) }
 {
-    MOST_AHEAD.max(LINES_OF_FEW / callers)
+    (LINES_OF_FEW / callers).max(MOST_AHEAD * (callers / 4).max(1))
 }
 
 /// Allocates the memory of all lanes, one for each caller, and of as many parts, each for so many lines.
 fn take_room(alloc: Global, callers: u8, each: usize) -> Result<AllRoom, NoMemory>
-    requires { (0 < callers) × (each ≤ HALF_LINES) }
+    requires { (0 < callers) × (each ≤ MOST_EACH) }
     ensures lanes { IfOk result (λ room. (room.lanes.items ≡ []) × (callers ≤ vec_capacity room.lanes)) }
     ensures rooms { IfOk result (λ room. (vec_len room.rooms ≡ callers) × (vec_len room.parts ≡ callers)) }
     ensures count { IfOk result (λ room. All (λ lane. places_in lane ≡ each) room.rooms.items) }

@@ -176,7 +176,7 @@ fn fill_and_answer<R: Threads + Wait + Sync>(
     let mut block = Block::new(alloc)?;
     let mut sink = sink(alloc)?;
     let mut lanes = open(rt, alloc, callers, 1)?;
-    answer(rt, &mut lanes, &STATUS, 3_000, &mut block, &mut sink);
+    answer(rt, &mut lanes, &STATUS, 9_000, &mut block, &mut sink);
     lanes.close();
     let text = text(alloc, &sink)?;
     let mut set = 0usize;
@@ -189,15 +189,14 @@ fn fill_and_answer<R: Threads + Wait + Sync>(
     Ok(set)
 }
 
-/// Up to four callers share 512 lines, and each of more has 128.
+/// Up to four callers share 512 lines. Each of more has as many times 128 as there are times four callers.
 #[test]
 fn full_lanes_are_answered(rt: HostRuntime) -> Result<(), Fail> {
     let alloc = rt.alloc();
     assert_eq!(rt; fill_and_answer(&rt, alloc, 1)?, 512);
     assert_eq!(rt; fill_and_answer(&rt, alloc, 3)?, 510);
-    assert_eq!(rt; fill_and_answer(&rt, alloc, 4)?, 512);
-    assert_eq!(rt; fill_and_answer(&rt, alloc, 5)?, 640);
-    assert_eq!(rt; fill_and_answer(&rt, alloc, 16)?, 2_048);
+    assert_eq!(rt; fill_and_answer(&rt, alloc, 7)?, 896);
+    assert_eq!(rt; fill_and_answer(&rt, alloc, 16)?, 8_192);
     Ok(())
 }
 

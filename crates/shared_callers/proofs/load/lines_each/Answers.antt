@@ -1,11 +1,9 @@
--- The lines of all callers fit a half block.
-use Rattle.std.proofs.Common.{◌*◌, ◌≤◌, rules, sym, subst}
-use Rattle.line_checks.specs.declared.lines_ahead.TheConstants.{MOST_AHEAD}
-use Rattle.shared_callers.specs.declared.half_block.TheConstants.{HALF_LINES}
-use Rattle.shared_callers.proofs.Seating.{each-most}
+-- The lines of each are within bounds.
+use Rattle.std.proofs.Common.{◌*◌, ◌/◌, max, ap, ◌∙◌}
+use Rattle.shared_callers.proofs.Seating.{each-within}
 use Rattle.shared_callers.proofs.load.lines_each.Goals as goal
 
-pub returns-clause-most : goal.returns-clause-most
-returns-clause-most c =
-    subst (λ each. c.args.callers * each ≤ HALF_LINES) (sym c.max.ensures)
-    (each-most MOST_AHEAD 512 HALF_LINES c.args.callers (search rules) (search rules) (search rules))
+pub returns : goal.returns
+returns c =
+    each-within c.args.callers c.max-2.result c.requires.0 c.requires.1
+    (c.max-2.ensures ∙ ap (λ quarter. max (512 / c.args.callers) (128 * quarter)) c.max.ensures)

@@ -1,6 +1,7 @@
 -- The lanes begin without lines, or the stores come back.
 use Rattle.std.proofs.Common.{◌≡◌, ◌*◌, ◌<◌, ◌≤◌, length, vec_len, inl, rules, sym, subst, ap, ◌∙◌}
 use Rattle.std.proofs.Math.Nat.{one-le-mul}
+use Rattle.std.proofs.lemmas.Nat.{mul-le}
 use Rattle.shared_shards.specs.ShardSeats.{opening_in}
 use Rattle.host_loading.proofs.Loads.{come-together, none-loaded, none-read}
 use Rattle.shared_callers.specs.Parts.{rooms_of}
@@ -31,7 +32,9 @@ seat_all-lanes-requires-clause-first g c =
 pub new-requires-clause-few : goal.new-requires-clause-few
 new-requires-clause-few g c =
     let long : c.from.result ≡ vec_len c.in-Ok.field-0.parts = search rules in
-    subst (λ n. n * c.lines_each-each.result ≤ HALF_LINES) long c.lines_each-each.ensures.most
+    let few : c.from.result ≤ 16 = search rules in
+    subst (λ n. n * c.lines_each-each.result ≤ HALF_LINES) long
+    (mul-le c.from.result c.lines_each-each.result 16 512 few c.lines_each-each.ensures.1)
 
 pub invariant_of-result-clause-plain : goal.invariant_of-result-clause-plain
 invariant_of-result-clause-plain g c =
