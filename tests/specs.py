@@ -2,6 +2,7 @@
 import glob
 import os
 import re
+from collections.abc import Iterable
 from typing import Optional
 
 from issuer_host.paths import HOME
@@ -9,6 +10,11 @@ from issuer_host.paths import HOME
 ITEM = re.compile(r"^( *)(?:(?:abbrev|unfoldable) (?:pub )?|pub (?:record|data) |(?:record|data) )(\S+)")
 OTHER = re.compile(r"^ *(?:use |pub use |pub mod |mod |module |infix)")
 USE = re.compile(r"^(?:ghost |pub )*use Rattle\.(\w+)\.specs\.([\w.]+?)(?:\.\{(.*)\})?(?: as (\w+))?;?$")
+HANDED_UP = re.compile(r"(?m)^pub use Rattle\.(\w+)\.specs\.(\w+)$")
+WHOLE = re.compile(r"^(?:pub )?use Rattle\.(\w+)\.specs\.([\w.]+)(?: .*|\{[^}]*)?$")
+# Modules of a crate's code. Their types are where a path of definitions ends.
+CODE = "declared."
+LIST = "Lib"
 CONSTRUCTOR = re.compile(r"^ *(?:pub )?([^\s:(]+) :")
 ENDING = ".antt"
 
@@ -31,6 +37,11 @@ def imports_in(text: str) -> Imports:
             name, _, under = words.partition(" as ")
             imported[under or name] = (found[1], found[2], name)
     return imported
+
+
+def modules_handed_up(text: str) -> dict[str, tuple[str, str]]:
+    """The modules of lower crates that a crate's list hands up, by their names there."""
+    return {module: (crate, module) for crate, module in HANDED_UP.findall(text)}
 
 
 class Definition:
@@ -70,10 +81,14 @@ class Module:
         self.path = path
         self.definitions: list[Definition] = []
         self.imported: Imports = {}
+        # Imports that bring in no names one by one: (crate, module).
+        self.whole: list[tuple[str, str]] = []
         # The item that the lines belong to, and the comment before the next one.
         self.item: Optional[Definition] = None
         self.comment: list[str] = []
-        lines = text_of(path).split("\n")
+        text = text_of(path)
+        self.handed_up = modules_handed_up(text)
+        lines = text.split("\n")
         for number, line in enumerate(lines, 1):
             self.read(number, line)
         self.head = head_of(lines)
@@ -92,6 +107,7 @@ class Module:
             self.item = None
             self.comment = []
             self.imported |= imports_in(line)
+            self.whole += WHOLE.findall(line)
         elif bare.startswith("--"):
             self.comment.append(bare[2:].strip())
         elif not bare:
@@ -112,11 +128,49 @@ def head_of(lines: list[str]) -> str:
     return " ".join(head)
 
 
-def load() -> dict[tuple[str, str], Module]:
-    """Reads all files of specs. Returns them by crate and module."""
-    modules = {}
+class Specs:
+    """The files of definitions of all crates, and what an imported name means."""
+
+    def __init__(self, modules: Iterable[Module]) -> None:
+        self.modules = {(module.crate, module.name): module for module in modules}
+        self.crates = {crate for crate, _ in self.modules}
+
+    def module(self, crate: str, name: str) -> Optional[Module]:
+        """The file that a crate has under this name: its own, or one that its list hands up from a lower crate."""
+        if (crate, name) in self.modules:
+            return self.modules[crate, name]
+        listed = self.modules.get((crate, LIST))
+        at = listed.handed_up.get(name) if listed else None
+        return self.module(*at) if at else None
+
+    def resolved(self, key: Key, seen: tuple[Key, ...] = ()) -> Optional[Key]:
+        """The definition that an imported name means, or None for a type of the code or a name of the toolchain."""
+        crate, module, name = key
+        at = self.module(crate, module)
+        if at is None or key in seen:
+            return None
+        if name in at.own:
+            return at.own[name]
+        return self.resolved(at.imported[name], (*seen, key)) if name in at.imported else None
+
+    def unresolved(self, module: Module) -> list[str]:
+        """The imports of this repository's definitions, in a file of them, that lead to no definition."""
+        names = [key for key in module.imported.values() if self.must_resolve(key[0], key[1])]
+        missing = [".".join(key) for key in names if not self.resolved(key)]
+        whole = [at for at in module.whole if self.must_resolve(*at)]
+        missing += [".".join(at) for at in whole if at not in module.handed_up.values() or not self.module(*at)]
+        return missing
+
+    def must_resolve(self, crate: str, module: str) -> bool:
+        """Whether a module has definitions of this repository."""
+        return crate in self.crates and not f"{module}.".startswith(CODE)
+
+
+def load() -> Specs:
+    """Reads all files of specs."""
+    modules = []
     for path in sorted(glob.glob(f"crates/*/specs/**/*{ENDING}", root_dir=HOME, recursive=True)):
         _, crate, _, rest = path.split("/", 3)
         name = rest.removesuffix(ENDING).replace("/", ".")
-        modules[crate, name] = Module(crate, name, path)
-    return modules
+        modules.append(Module(crate, name, path))
+    return Specs(modules)
