@@ -10,7 +10,7 @@ from collections.abc import Sequence
 from typing import NamedTuple
 
 sys.path.insert(0, os.path.dirname(os.path.dirname(os.path.realpath(__file__))))
-from issuer_host.paths import HOME, PROGRAM
+from issuer_host.facts.paths import HOME, PROGRAM
 
 __all__ = ["BENCH_RUNS", "HOME", "MEMORY", "PROGRAM", "Counted", "Used", "counted", "measured", "need", "number_of"]
 

@@ -1,25 +1,20 @@
-"""What stands around the program, as one package: what it reads and writes, its commands, statuses and answers.
+"""The Python around the program, as one package. Each subpackage imports only from those before it in this list:
 
-Each fact about the program stands once, in one of these modules. Every command, script and test takes it from there:
+- `facts`: the facts about the program, each stated once
+- `files`: the journals and the files beside them
+- `start`: the careful start
+- `host`: one run of the program after another, supervised
+- `orders`: operators' orders and accounts' declines
+- `broker`: the broker's queues, and the connection to it
+- `telling`: figures, and the state for the service manager
+- `commands`: the bridge, and the commands of operators
+- `gateway`: requests in ISO 8583
+- `replication`: a partition's records on several machines
+- `launcher`: `./issuer`
+- `building`: builds, proves and tests the program; an installed copy doesn't have it
+- `packaging`: the Debian package; an installed copy doesn't have it
 
-- `paths`: where the tree or an installed copy lies, and in it the proved program and the record of its proof
-- `proof`: whether a program is the one that a record of proof names
-- `commands`: the program's commands, their options, the values that an option takes, which of them open journals
-- `statuses`: the exit statuses, what each means, its cause in words, and whether a new start ends in the same way
-- `answers`: the first words of answers, the refusals by name, the reply of a decision
-- `limits`: how many shards, cards, lines and bytes there may be
-- `journals`: the names of journals, their versions, and their records, cut by names and widths
-- `partitions`: the partition of a card, and the paths of a partition
-- `request_lines`: the PAN of a request line
-- `memory`: keeps what a process has in memory from cores and from others
-- `masks`: what messages and logs may have of a card
-- `show_lines`: the lines that `show` prints
-
-`launcher` runs the proved program, `building` builds and proves it, and `service` has what stands around a host in
-production: a careful start, a bridge for each partition, and the commands of operators. `gateway` takes requests in ISO
-8583, and asks the hosts.
-
-Only `tests/oracle` states these facts again: it is the independent program that the tests compare with.
+Each subpackage's first lines say what its modules are for.
 
 A command stays where users call it, and is a few lines over a module here. It puts the package's home on its path:
 
@@ -28,9 +23,9 @@ A command stays where users call it, and is a few lines over a module here. It p
     import sys
 
     sys.path.insert(0, os.path.dirname(os.path.dirname(os.path.realpath(__file__))))
-    from issuer_host import journals
-    from issuer_host.statuses import Status
+    from issuer_host.facts import journals
+    from issuer_host.facts.statuses import Status
 
 The package needs Python 3.9 and its standard library alone. Every function is typed. `tests/lint` runs black, flake8
-and mypy over the files that it lists; add a file to that list once it passes all three.
+and mypy over all Python files of the tree.
 """

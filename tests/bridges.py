@@ -12,8 +12,8 @@ from collections.abc import Iterator, Sequence
 from typing import Any, Optional
 
 from runs import HOME
-from issuer_host.journals import Decided, Record, journal_path, record_of, records_of, shards_of_files
-from issuer_host.show_lines import ShownCard, cards_of
+from issuer_host.facts.journals import Decided, Record, journal_path, record_of, records_of, shards_of_files
+from issuer_host.facts.show_lines import ShownCard, cards_of
 
 STAND_IN = os.path.join(HOME, "tests/stand_ins/bridge_by_pipes")
 SECONDS = 60.0

@@ -24,7 +24,7 @@ from typing import Any, NamedTuple, NoReturn
 
 # Every script here imports this module or `runs` first: so they find the package `issuer_host` too.
 sys.path.insert(0, os.path.dirname(os.path.dirname(os.path.realpath(__file__))))
-from issuer_host.paths import HOME, built_program
+from issuer_host.facts.paths import HOME, built_program
 
 # Of a value that was expected or came, and of what was run, so many characters are printed.
 SHOWN = 600

@@ -13,8 +13,8 @@ from collections.abc import Iterator
 from typing import Any, Optional
 
 from checks import Tally
-from issuer_host import journals
-from issuer_host.paths import HOME
+from issuer_host.facts import journals
+from issuer_host.facts.paths import HOME
 
 sys.path.append(os.path.join(HOME, "tools"))
 from switch.cards import cards_of, request_of, verdict_of

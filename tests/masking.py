@@ -8,7 +8,7 @@ from checks import Check, Tally
 from issuers import configuration, pan_of
 from runs import HOME, new_folder
 
-from issuer_host.masks import masked
+from issuer_host.facts.masks import masked
 
 # Cards that no partition has; the first two cards of the issuer are among those that it has.
 STRANGERS = ("5413330089604111", "4999999999999995123", "67034200554565015")

@@ -13,18 +13,18 @@ from typing import Any, NamedTuple, Optional
 
 import pika
 
-from issuer_host.answers import RECORDED
-from issuer_host.journals import StatusSet, journal_path, record_of, records_of
-from issuer_host.partitions import partition_configuration, partition_journal
-from issuer_host.paths import HOME
+from issuer_host.broker import topology
+from issuer_host.broker.publisher import Asker, Unanswered
+from issuer_host.facts.answers import RECORDED
+from issuer_host.facts.journals import StatusSet, journal_path, record_of, records_of
+from issuer_host.facts.partitions import partition_configuration, partition_journal
+from issuer_host.facts.paths import HOME
+from issuer_host.orders.intent_log import Begun, WorkFile
 from issuer_host.replication.messages import LOGS, Message, Record, parse
 from issuer_host.replication.notes import read_notes
 from issuer_host.replication.rule import Count
-from issuer_host.service import broker
-from issuer_host.service.asking import Asker, Unanswered
 from issuer_host.service.trials.cards import distinct_lines, whole_configuration, with_account_row
 from issuer_host.service.trials.private_broker import PrivateBroker
-from issuer_host.service.work_file import Begun, WorkFile
 
 NODE = os.path.join(HOME, "deploy/node")
 QUEUES = os.path.join(HOME, "deploy/queues")
@@ -292,7 +292,7 @@ class Room:
 
     @contextlib.contextmanager
     def channel(self) -> Iterator[Any]:
-        connection = pika.BlockingConnection(broker.parameters_of(self.private.url_file))
+        connection = pika.BlockingConnection(topology.parameters_of(self.private.url_file))
         try:
             yield connection.channel()
         finally:
@@ -310,30 +310,30 @@ class Room:
 
     def bind(self, number: int, is_bound: bool) -> None:
         """Lets what is written arrive at a partition's stream, or keeps it from it."""
-        stream = broker.stream_of(number)
+        stream = topology.stream_of(number)
         with self.channel() as channel:
-            (channel.queue_bind if is_bound else channel.queue_unbind)(stream, broker.RECORDS, stream)
+            (channel.queue_bind if is_bound else channel.queue_unbind)(stream, topology.RECORDS, stream)
 
     def write(self, number: int, text: str) -> None:
         """Writes a message to a partition's stream."""
         with self.channel() as channel:
-            channel.basic_publish(broker.RECORDS, broker.stream_of(number), text.encode())
+            channel.basic_publish(topology.RECORDS, topology.stream_of(number), text.encode())
 
     def publish(self, number: int, lines: Sequence[str]) -> None:
         """Puts requests into a partition's queue whose answers nobody reads."""
         with self.channel() as channel:
             for place, line in enumerate(lines):
                 properties = pika.BasicProperties(reply_to="issuer.reply.nobody", correlation_id=f"nobody{place}")
-                channel.basic_publish(broker.REQUESTS, str(number), line.encode(), properties)
+                channel.basic_publish(topology.REQUESTS, str(number), line.encode(), properties)
 
     def purge(self, number: int) -> None:
         """Takes what waits in a partition's queue out of it."""
         with self.channel() as channel:
-            wait_until(lambda: channel.queue_purge(broker.queue_of(number)).method.message_count, 10)
+            wait_until(lambda: channel.queue_purge(topology.queue_of(number)).method.message_count, 10)
 
     def make_anew(self, number: int) -> None:
         with self.channel() as channel:
-            channel.queue_delete(broker.stream_of(number))
+            channel.queue_delete(topology.stream_of(number))
         self.declare()
 
     def served_last(self, number: int) -> Machine:
@@ -362,7 +362,7 @@ class Room:
         with self.channel() as channel:
             channel.basic_qos(prefetch_count=100)
             words = {"arguments": {"x-stream-offset": "first"}, "inactivity_timeout": SECONDS}
-            for method, _, body in channel.consume(broker.stream_of(number), **words):
+            for method, _, body in channel.consume(topology.stream_of(number), **words):
                 assert method is not None, "the stream's end doesn't come"
                 found.append(parse(body.decode()))
                 channel.basic_ack(method.delivery_tag)

@@ -11,7 +11,7 @@ from collections.abc import Mapping, Sequence
 from dataclasses import dataclass
 from typing import Optional
 
-from issuer_host.paths import HOME
+from issuer_host.facts.paths import HOME
 
 # (no page and no program writes it)
 MARK = "\x1e"

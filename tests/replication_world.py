@@ -8,7 +8,7 @@ import collections
 from collections.abc import Callable, Iterator
 from typing import NamedTuple, Optional
 
-from issuer_host.replication.messages import LOGS, Barrier, Message, Record
+from issuer_host.replication.messages import Barrier, LOGS, Message, Record
 from issuer_host.replication.rule import Answer, Bridge, Count, State
 
 COUNTERS = ("7", "8", "9")

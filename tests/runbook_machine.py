@@ -13,8 +13,8 @@ import sys
 from typing import Any
 
 from checks import Tally
-from issuer_host.paths import HOME
-from issuer_host.service.packaging.make_deb import COMMANDS
+from issuer_host.facts.paths import HOME
+from issuer_host.packaging.make_deb import COMMANDS
 from issuer_host.service.trials.private_broker import free_port
 from runs import table_row
 

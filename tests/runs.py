@@ -8,9 +8,9 @@ import tempfile
 from typing import NamedTuple
 
 from checks import Tally, options_of
-from issuer_host import journals
-from issuer_host.commands import CALLERS, COMMANDS
-from issuer_host.paths import HOME
+from issuer_host.facts import journals
+from issuer_host.facts.commands import CALLERS, COMMANDS
+from issuer_host.facts.paths import HOME
 
 __all__ = ["HOME", "Tally", "options_of"]
 

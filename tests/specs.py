@@ -5,7 +5,7 @@ import re
 from collections.abc import Iterable
 from typing import Optional
 
-from issuer_host.paths import HOME
+from issuer_host.facts.paths import HOME
 
 ITEM = re.compile(r"^( *)(?:(?:abbrev|unfoldable) (?:pub )?|pub (?:record|data) |(?:record|data) )(\S+)")
 OTHER = re.compile(r"^ *(?:use |pub use |pub mod |mod |module |infix)")

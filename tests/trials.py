@@ -11,7 +11,7 @@ from collections.abc import Mapping
 from typing import NamedTuple, Optional
 
 from checks import Tally
-from issuer_host.paths import HOME
+from issuer_host.facts.paths import HOME
 
 STAND_INS = os.path.join(HOME, "tests/stand_ins")
 CRATES = """\

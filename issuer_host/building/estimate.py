@@ -5,8 +5,8 @@ import time
 from collections.abc import Collection, Mapping
 from typing import NamedTuple
 
+from issuer_host.facts.paths import BUILD, HOME
 from issuer_host.launcher.sources import Crate
-from issuer_host.paths import BUILD, HOME
 
 # Processor seconds of each crate's proof: those measured before, and those of the last run here.
 SECONDS = os.path.join(HOME, "bench/prove_seconds.txt")

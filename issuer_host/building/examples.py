@@ -2,7 +2,7 @@
 import os
 from typing import NamedTuple
 
-from issuer_host.paths import HOME
+from issuer_host.facts.paths import HOME
 
 EXAMPLES = os.path.join(HOME, "examples")
 

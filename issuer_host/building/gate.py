@@ -10,7 +10,7 @@ Nothing else of the toolchain is changed: it decides what is proved, by what, an
 calls, its command is run as it is.
 
 A toolchain takes the sum before and after a proof to find files that changed meanwhile. Remembering it drops that. So
-whoever runs this compares the sources before the run and after it: `issuer_host.building.proving` does.
+whoever runs this compares the sources before the run and after it: `issuer_host.building.proof_run` does.
 """
 import ast
 import functools

@@ -9,9 +9,9 @@ import time
 from typing import BinaryIO, NamedTuple
 
 from issuer_host.building.estimate import known_seconds
+from issuer_host.facts.paths import HOME
 from issuer_host.launcher.messages import minutes
 from issuer_host.launcher.sources import rows_of
-from issuer_host.paths import HOME
 
 PROOF = re.compile(r"rt: (?P<name>\w+) (proved|is kept: .*)")
 TESTS = re.compile(r"rt: (?P<name>\w+): its tests (are proved|are kept: .*)")

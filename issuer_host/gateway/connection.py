@@ -5,14 +5,14 @@ import datetime
 from collections.abc import Callable
 from typing import Optional, Protocol, cast
 
-from issuer_host import answers
-from issuer_host.gateway import requests, responses, table
+from issuer_host.facts import answers
+from issuer_host.facts.masks import masked
+from issuer_host.gateway import mapping, requests, responses
 from issuer_host.gateway.figures import Figures
 from issuer_host.gateway.frames import BadFrame, FrameBuffer, frame_of
 from issuer_host.gateway.log import Limited
 from issuer_host.gateway.message import Codec, Message, Unreadable, Unwritable
 from issuer_host.gateway.requests import RequestLine
-from issuer_host.masks import masked
 
 # Answers that a peer doesn't read are buffered up to so many bytes; then nothing more is read from it.
 WRITE_BYTES = 1 << 16
@@ -142,17 +142,17 @@ class Connection(asyncio.BufferedProtocol):
             self.owner.limited.tell(f"a message can't be read: {fault.why}")
             if fault.so_far is None:
                 self.close_after_answers("no message")
-            elif table.what_to_do(fault.so_far.kind) != table.PASS_OVER:
-                self.respond(responses.settled(self.dialect, fault.so_far, table.BAD_FORMAT), began)
+            elif mapping.what_to_do(fault.so_far.kind) != mapping.PASS_OVER:
+                self.respond(responses.settled(self.dialect, fault.so_far, mapping.BAD_FORMAT), began)
             return
-        what = table.what_to_do(message.kind)
+        what = mapping.what_to_do(message.kind)
         self.owner.figures.count("messages", ("what", what))
-        if what == table.DECIDE:
+        if what == mapping.DECIDE:
             self.decide(message, began)
-        elif what == table.ECHO:
+        elif what == mapping.ECHO:
             self.respond(responses.network_response(self.dialect, message), began)
-        elif what == table.DECLINE:
-            self.respond(responses.settled(self.dialect, message, table.UNSUPPORTED), began)
+        elif what == mapping.DECLINE:
+            self.respond(responses.settled(self.dialect, message, mapping.UNSUPPORTED), began)
 
     def decide(self, message: Message, began: float) -> None:
         line = requests.line_of(self.dialect, message, datetime.date.today())
@@ -166,7 +166,7 @@ class Connection(asyncio.BufferedProtocol):
             self.in_flight -= 1
             self.owner.figures.in_flight -= 1
             if answer is None:
-                self.respond(responses.settled(self.dialect, message, table.NO_DECISION), began)
+                self.respond(responses.settled(self.dialect, message, mapping.NO_DECISION), began)
             else:
                 self.flag(answer, pan)
                 self.respond(responses.answered(self.dialect, message, answer), began)
@@ -179,7 +179,7 @@ class Connection(asyncio.BufferedProtocol):
     def flag(self, answer: str, pan: str) -> None:
         """Tells of an answer for which somebody has to look at the card, or at the configuration."""
         kind = answers.kind_of(answer)
-        if kind.word == answers.REFUSED and table.refusal_of(kind.refusal) in table.FLAGGED:
+        if kind.word == answers.REFUSED and mapping.refusal_of(kind.refusal) in mapping.FLAGGED:
             self.owner.limited.tell(f"refused {kind.refusal}: card {masked(pan)}")
 
     def go_on(self) -> None:
@@ -195,13 +195,13 @@ class Connection(asyncio.BufferedProtocol):
             data = self.codec.pack(message)
         except Unwritable as fault:
             self.owner.limited.tell(f"a response can't be written, and is a malfunction: {fault}")
-            code = table.MALFUNCTION.code[self.dialect.edition]
+            code = mapping.MALFUNCTION.code[self.dialect.edition]
             message = Message(
                 message.kind, {it: message.elements[it] for it in self.dialect.echo if it in message.elements}
             )
-            message.elements[table.CODE] = code
+            message.elements[mapping.CODE] = code
             data = self.codec.pack(message)
-        self.owner.figures.responded(str(message.elements[table.CODE]), self.loop.time() - began)
+        self.owner.figures.responded(str(message.elements[mapping.CODE]), self.loop.time() - began)
         if self.transport is None:
             return
         if not self.unsent:

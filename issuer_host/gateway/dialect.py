@@ -11,7 +11,7 @@ import re
 from dataclasses import dataclass
 from typing import Any, Dict, Mapping, Tuple
 
-from issuer_host.gateway.table import APPROVAL, CHIP, CODE, EDITIONS
+from issuer_host.gateway.mapping import APPROVAL, CHIP, CODE, EDITIONS
 
 LAST_ELEMENT = 128
 # Element 1 is the second bitmap, and 65 announces a third one, which no message of these editions has.

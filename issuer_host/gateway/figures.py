@@ -8,9 +8,9 @@ import os
 from collections.abc import Iterator, Mapping
 from typing import Callable, Union
 
-from issuer_host.answers import DECISIONS, REFUSED, Kind
-from issuer_host.gateway.table import REFUSALS
-from issuer_host.journals import journals_of
+from issuer_host.facts.answers import DECISIONS, Kind, REFUSED
+from issuer_host.facts.journals import journals_of
+from issuer_host.gateway.mapping import REFUSALS
 
 SECONDS = (0.001, 0.002, 0.005, 0.01, 0.02, 0.05, 0.1, 0.2, 0.5, 1, 2, 5, 10, 30)
 REQUEST_SECONDS, REQUEST_BYTES = 5.0, 4096

@@ -10,15 +10,15 @@ from collections.abc import Callable
 from dataclasses import dataclass
 from typing import Any, Optional, Protocol
 
+from issuer_host.facts.statuses import Status
 from issuer_host.gateway import figures as figures_of
 from issuer_host.gateway.connection import Connection
 from issuer_host.gateway.figures import Figures
-from issuer_host.gateway.log import NAME, Limited, tell
+from issuer_host.gateway.log import Limited, NAME, tell
 from issuer_host.gateway.message import Codec
 from issuer_host.gateway.requests import RequestLine
 from issuer_host.gateway.traffic import Host, Traffic
-from issuer_host.service import notices
-from issuer_host.statuses import Status
+from issuer_host.telling import service_manager
 
 TICK_SECONDS, EXPIRE_SECONDS = 1.0, 0.02
 HANDSHAKE_SECONDS = 10.0
@@ -144,7 +144,7 @@ class Gateway:
             await self.end_hosts()
             return Status.USAGE if refusals[0] == Status.WORDS else refusals[0] or Status.REFUSED
         await self.listen(listeners, context, figures_port)
-        notices.notify(NAME, "READY=1")
+        service_manager.notify(NAME, "READY=1")
         self.tick()
         self.expire()
         await self.stopped.wait()
@@ -200,7 +200,7 @@ class Gateway:
     def tick(self) -> None:
         self.loop.call_later(TICK_SECONDS, self.tick)
         now = self.loop.time()
-        notices.notify(
+        service_manager.notify(
             NAME, f"WATCHDOG=1\nSTATUS={len(self.connections)} connections, {len(self.traffic.open)} messages in flight"
         )
         for host in self.hosts:
@@ -219,7 +219,7 @@ class Gateway:
 
     async def drain(self) -> None:
         """Answers what is in flight, within its time limit, and ends connections and hosts."""
-        notices.notify(NAME, "STOPPING=1")
+        service_manager.notify(NAME, "STOPPING=1")
         tell(f"ends: {len(self.traffic.open)} messages are in flight")
         for server in self.servers:
             server.close()

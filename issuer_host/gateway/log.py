@@ -3,7 +3,7 @@
 import time
 from typing import Callable
 
-from issuer_host.service import refusal
+from issuer_host.facts import refusal
 
 NAME = "gateway"
 # Lines a second that may be told of peers' and cards' doings. What is left out is counted.

@@ -25,13 +25,13 @@ import argparse
 import asyncio
 from collections.abc import Sequence
 
+from issuer_host.facts.refusal import Refusal
+from issuer_host.facts.statuses import Status
 from issuer_host.gateway import options as options_of
 from issuer_host.gateway.gateway import Gateway, Partition
 from issuer_host.gateway.log import tell
 from issuer_host.gateway.options import BadOptions
 from issuer_host.gateway.pipes import PipeHost, command_of
-from issuer_host.service.refusal import Refusal
-from issuer_host.statuses import Status
 
 
 def main(words: Sequence[str]) -> int:
@@ -65,7 +65,7 @@ async def run(words: Sequence[str]) -> int:
 def brokered(gateway: Gateway, options: argparse.Namespace) -> list[Partition]:
     """The partitions behind the broker."""
     try:
-        from issuer_host.gateway.brokered import brokered_hosts
+        from issuer_host.gateway.broker_hosts import brokered_hosts
     except ImportError as fault:
         raise BadOptions(f"behind a broker the gateway needs {fault.name}: install python3-pika") from fault
     file, figures = options.broker_file, gateway.figures

@@ -4,7 +4,7 @@ from collections.abc import Callable
 from dataclasses import dataclass, field
 from typing import Optional, Union
 
-from issuer_host.gateway.dialect import BITMAP_ELEMENTS, LAST_ELEMENT, Dialect, Format
+from issuer_host.gateway.dialect import BITMAP_ELEMENTS, Dialect, Format, LAST_ELEMENT
 
 Value = Union[str, bytes]
 

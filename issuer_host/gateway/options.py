@@ -6,11 +6,11 @@ import os
 import ssl
 from typing import NoReturn, Optional
 
+from issuer_host.facts.paths import HOME
 from issuer_host.gateway.dialect import BadDialect, Dialect, named, read_dialect
 from issuer_host.gateway.frames import GREATEST_FRAME
 from issuer_host.gateway.gateway import Bounds, Listener
 from issuer_host.gateway.message import Codec
-from issuer_host.paths import HOME
 
 DIALECTS = os.path.join(HOME, "deploy", "dialects")
 LISTEN = "8583=1987-ascii"

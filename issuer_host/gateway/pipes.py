@@ -9,22 +9,15 @@ import collections
 import os
 from typing import Callable, Optional
 
+from issuer_host.facts.journals import journals_of
+from issuer_host.facts.paths import HOME
+from issuer_host.facts.statuses import NOT_AGAIN, Status, meaning_of
+from issuer_host.files.seal_writer import Sealing
 from issuer_host.gateway.figures import Figures
 from issuer_host.gateway.log import tell
 from issuer_host.gateway.traffic import Question, Traffic
-from issuer_host.journals import journals_of
-from issuer_host.paths import HOME
-from issuer_host.service.host import Host
-from issuer_host.service.hosting import (
-    FIRST_DELAY,
-    LAST_DELAY,
-    LOAD_BYTES,
-    LOAD_SECONDS,
-    SILENT_SECONDS,
-    bytes_of,
-)
-from issuer_host.service.sealing import Sealing
-from issuer_host.statuses import NOT_AGAIN, Status, meaning_of
+from issuer_host.host.process import Host
+from issuer_host.host.supervisor import FIRST_DELAY, LAST_DELAY, LOAD_BYTES, LOAD_SECONDS, SILENT_SECONDS, bytes_of
 
 CAREFUL_START = os.path.join(HOME, "deploy", "issuer-run")
 # A line of no form, which leaves no record: its answer says that the host has loaded its journals.

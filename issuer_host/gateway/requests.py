@@ -3,18 +3,18 @@
 import datetime
 from typing import NamedTuple, Optional, Union
 
-from issuer_host.gateway import table
+from issuer_host.facts.limits import MAX_OPTION_BYTES
+from issuer_host.facts.request_lines import Torn, objects_of
+from issuer_host.gateway import mapping
 from issuer_host.gateway.dialect import Dialect
-from issuer_host.gateway.message import SEPARATOR, Message
-from issuer_host.limits import MAX_OPTION_BYTES
-from issuer_host.request_lines import Torn, objects_of
+from issuer_host.gateway.message import Message, SEPARATOR
 
 # Chip data of a line.
 MAX_CHIP_DATA = MAX_OPTION_BYTES
 HALF_A_YEAR = datetime.timedelta(days=183)
-TAG_PAN, TAG_PSN, TAG_AMOUNT, TAG_CURRENCY, TAG_TYPE = "5A", "5F34", "9F02", table.CURRENCY_TAG, "9C"
+TAG_PAN, TAG_PSN, TAG_AMOUNT, TAG_CURRENCY, TAG_TYPE = "5A", "5F34", "9F02", mapping.CURRENCY_TAG, "9C"
 # The tags of the table, by their bytes.
-TAGS = {bytes.fromhex(row.tag): row.tag for row in table.REQUEST_ROWS}
+TAGS = {bytes.fromhex(row.tag): row.tag for row in mapping.REQUEST_ROWS}
 
 
 class RequestLine(NamedTuple):
@@ -27,7 +27,7 @@ class RequestLine(NamedTuple):
 class Settled(NamedTuple):
     """A message that no host is asked about: its outcome, and why."""
 
-    outcome: table.Outcome
+    outcome: mapping.Outcome
     why: str
 
 
@@ -37,21 +37,21 @@ class Disagreement(Exception):
 
 def line_of(dialect: Dialect, message: Message, today: datetime.date) -> Union[RequestLine, Settled]:
     """The request line of a message, or what it comes to without one."""
-    chip = message.elements.get(table.CHIP)
+    chip = message.elements.get(mapping.CHIP)
     if not isinstance(chip, bytes) or not chip:
-        return Settled(table.UNSUPPORTED, "it has no chip data (element 55)")
+        return Settled(mapping.UNSUPPORTED, "it has no chip data (element 55)")
     of_chip = first_objects(chip)
     try:
         of_message = objects_beside(dialect, message, of_chip, today)
         check_amount(of_message, of_chip)
     except Disagreement as why:
-        return Settled(table.BAD_FORMAT, str(why))
+        return Settled(mapping.BAD_FORMAT, str(why))
     if TAG_PAN not in of_message and TAG_PAN not in of_chip:
-        return Settled(table.BAD_FORMAT, "it has no PAN: neither elements 2 and 35 nor tag 5A")
+        return Settled(mapping.BAD_FORMAT, "it has no PAN: neither elements 2 and 35 nor tag 5A")
     added = [(tag, value) for tag, value in of_message.items() if tag not in of_chip]
     data = b"".join(bytes.fromhex(tag) + bytes([len(value)]) + value for tag, value in added) + chip
     if len(data) > MAX_CHIP_DATA:
-        return Settled(table.BAD_FORMAT, f"its chip data have {len(data)} bytes, and {MAX_CHIP_DATA} are the most")
+        return Settled(mapping.BAD_FORMAT, f"its chip data have {len(data)} bytes, and {MAX_CHIP_DATA} are the most")
     pan = of_chip[TAG_PAN] if TAG_PAN in of_chip else of_message[TAG_PAN]
     return RequestLine(f"A {data.hex()}", pan.hex().rstrip("f"))
 
@@ -77,7 +77,7 @@ def objects_beside(
     The currency is empty if the element makes none, and 55 has its tag.
     """
     made: dict[str, bytes] = {}
-    for row in table.REQUEST_ROWS:
+    for row in mapping.REQUEST_ROWS:
         number = row.element[dialect.edition]
         text = message.elements.get(number)
         if not isinstance(text, str) or row.tag in of_chip and not row.is_used:
@@ -118,7 +118,7 @@ def pan_value(digits: str) -> bytes:
 def value_of(tag: str, number: int, text: str, today: datetime.date) -> Optional[bytes]:
     """The value of an object that an element makes, or None if it makes none."""
     if tag == TAG_PAN:
-        digits = text.partition(SEPARATOR)[0] if number == table.TRACK_2 else text
+        digits = text.partition(SEPARATOR)[0] if number == mapping.TRACK_2 else text
         return pan_value(digits) if 8 <= len(digits) <= 19 and digits.isdecimal() else None
     if tag == TAG_PSN:
         return bytes.fromhex(text[1:]) if text[0] == "0" else None
@@ -128,7 +128,7 @@ def value_of(tag: str, number: int, text: str, today: datetime.date) -> Optional
         return bytes.fromhex(f"0{text}") if text.isdecimal() else None
     if tag == TAG_TYPE:
         return bytes.fromhex(text[:2])
-    return bytes.fromhex(text[:6]) if number == table.DATE["1993"] else date_value(text, today)
+    return bytes.fromhex(text[:6]) if number == mapping.DATE["1993"] else date_value(text, today)
 
 
 def date_value(month_and_day: str, today: datetime.date) -> Optional[bytes]:

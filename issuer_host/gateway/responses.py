@@ -2,8 +2,8 @@
 
 from typing import NamedTuple, Optional
 
-from issuer_host import answers
-from issuer_host.gateway import table
+from issuer_host.facts import answers
+from issuer_host.gateway import mapping
 from issuer_host.gateway.dialect import Dialect
 from issuer_host.gateway.message import Message, Value
 
@@ -32,12 +32,12 @@ def decision_of(answer: str) -> Optional[Decision]:
 def response_to(dialect: Dialect, request: Message, code: str, more: Optional[dict[int, Value]] = None) -> Message:
     """A response with this code: what it echoes of its request, and more."""
     elements = {it: request.elements[it] for it in dialect.echo if it in request.elements}
-    own: dict[int, Value] = {table.CODE: code, **(more or {})}
+    own: dict[int, Value] = {mapping.CODE: code, **(more or {})}
     written = {it: data for it, data in request.written.items() if it not in own}
-    return Message(table.response_type(request.kind), elements | own, written)
+    return Message(mapping.response_type(request.kind), elements | own, written)
 
 
-def settled(dialect: Dialect, request: Message, outcome: table.Outcome) -> Message:
+def settled(dialect: Dialect, request: Message, outcome: mapping.Outcome) -> Message:
     return response_to(dialect, request, outcome.code[dialect.edition])
 
 
@@ -45,13 +45,13 @@ def answered(dialect: Dialect, request: Message, answer: str) -> Message:
     """The response to a request that a host answered."""
     decision = decision_of(answer)
     if decision is None:
-        refusal = table.refusal_of(answers.kind_of(answer).refusal)
-        known = refusal is not None and refusal in table.REFUSALS
-        return settled(dialect, request, table.REFUSALS[refusal] if refusal and known else table.MALFUNCTION)
-    code = table.code_of(decision.response_code, decision.approves, dialect.edition)
-    more: dict[int, Value] = {table.CHIP: decision.data}
+        refusal = mapping.refusal_of(answers.kind_of(answer).refusal)
+        known = refusal is not None and refusal in mapping.REFUSALS
+        return settled(dialect, request, mapping.REFUSALS[refusal] if refusal and known else mapping.MALFUNCTION)
+    code = mapping.code_of(decision.response_code, decision.approves, dialect.edition)
+    more: dict[int, Value] = {mapping.CHIP: decision.data}
     if decision.approves:
-        more[table.APPROVAL] = table.approval_code(decision.shard, decision.place)
+        more[mapping.APPROVAL] = mapping.approval_code(decision.shard, decision.place)
     return response_to(dialect, request, code, more)
 
 
@@ -62,5 +62,5 @@ def is_accepted(dialect: Dialect, request: Message) -> bool:
 
 
 def network_response(dialect: Dialect, request: Message) -> Message:
-    outcome = table.ACCEPTED if is_accepted(dialect, request) else table.UNSUPPORTED
+    outcome = mapping.ACCEPTED if is_accepted(dialect, request) else mapping.UNSUPPORTED
     return settled(dialect, request, outcome)

@@ -8,11 +8,11 @@ import asyncio
 from collections.abc import Callable, Sequence
 from typing import Optional, Protocol
 
-from issuer_host import answers
-from issuer_host.answers import Refusal
+from issuer_host.facts import answers
+from issuer_host.facts.answers import Refusal
+from issuer_host.facts.partitions import partition_of
 from issuer_host.gateway.figures import Figures
 from issuer_host.gateway.requests import RequestLine
-from issuer_host.partitions import partition_of
 
 # How long a line is held that a host refused for now.
 HOLD_SECONDS = {str(int(Refusal.PENDING)): 0.02, str(int(Refusal.STORE_FAULT)): 0.25}

@@ -3,11 +3,11 @@ import os
 from collections.abc import Sequence
 from typing import NamedTuple, Optional
 
-from issuer_host.commands import COMMANDS, CONFIG, JOURNAL, value_of
-from issuer_host.journals import journal_path, old_journal_path
-from issuer_host.launcher.closed import why_closed
+from issuer_host.facts.commands import COMMANDS, CONFIG, JOURNAL, value_of
+from issuer_host.facts.journals import journal_path, old_journal_path
+from issuer_host.facts.statuses import MEANINGS, Status
+from issuer_host.launcher.closed_journals import why_closed
 from issuer_host.launcher.messages import tell
-from issuer_host.statuses import MEANINGS, Status
 
 # The members of a configuration, by the part that the last line names.
 MEMBERS = {2: "shards", 3: "keys", 4: "cards", 5: "table"}

@@ -3,8 +3,8 @@ import os
 from collections.abc import Iterable, Sequence
 from typing import Optional
 
-from issuer_host.commands import COMMANDS, JOURNAL, OPTIONS, Command, value_of
-from issuer_host.journals import journal_path, old_journal_path
+from issuer_host.facts.commands import COMMANDS, Command, JOURNAL, OPTIONS, value_of
+from issuer_host.facts.journals import journal_path, old_journal_path
 
 # Words that stand alone, and what may follow nevertheless.
 ALONE = {"--help": "", "-h": "", "help": "", "--version": "", "prove": ", or with --anew", "test": ""}

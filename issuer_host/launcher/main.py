@@ -1,25 +1,43 @@
 """What the launcher's words ask for."""
 import os
 import sys
-from collections.abc import Sequence
+from collections.abc import Callable, Sequence
+from typing import Protocol
 
+from issuer_host.facts.memory import keep_from_others
+from issuer_host.facts.paths import HOME
+from issuer_host.facts.proof import read_record
+from issuer_host.facts.statuses import Status
+from issuer_host.facts.version import version
 from issuer_host.launcher.hints import hint, new_journal
 from issuer_host.launcher.messages import stop, tell
 from issuer_host.launcher.pin_words import NoPin, filled
-from issuer_host.launcher.proved import run_proved, why_unproved
-from issuer_host.launcher.running import open_descriptors
+from issuer_host.launcher.program_run import open_descriptors
+from issuer_host.launcher.proved_program import run_proved, why_unproved
 from issuer_host.launcher.sources import TOP
 from issuer_host.launcher.toolchain import kit_of, toolchain
 from issuer_host.launcher.usage import usage
-from issuer_host.memory import keep_from_others
-from issuer_host.paths import HOME
-from issuer_host.proof import read_record
-from issuer_host.statuses import Status
-from issuer_host.version import version
 
 NEVER_BUILD = "ISSUER_NEVER_BUILD"
 FORBIDDEN = f"--never-build, or {NEVER_BUILD} in the environment, forbids"
 INTERRUPTED = 130
+
+
+class Builder(Protocol):
+    """Builds and proves these sources. An installed copy has none."""
+
+    def run_unproved(self, words: Sequence[str]) -> int:
+        """Builds the program without proofs, and returns the status of one run of it."""
+
+    def prove(self, words: Sequence[str]) -> int:
+        ...
+
+    def test(self) -> int:
+        ...
+
+
+# Gives the builder. It is called where there are sources alone.
+FindBuilder = Callable[[], Builder]
 
 
 def line_of_version() -> str:
@@ -31,7 +49,7 @@ def line_of_version() -> str:
     return f"issuer {version()}, not proved here" + (f"; the toolchain is {kit}" if kit else "")
 
 
-def answer(words: Sequence[str], is_output_open: bool) -> int:
+def answer(words: Sequence[str], builder: FindBuilder, is_output_open: bool) -> int:
     """Does what the words ask for, and returns the status."""
     never_builds = os.environ.get(NEVER_BUILD, "") not in ("", "0")
     while words[:1] == ["--never-build"]:
@@ -44,16 +62,16 @@ def answer(words: Sequence[str], is_output_open: bool) -> int:
         print(line_of_version())
         return Status.OK
     if words in (["prove"], ["prove", "--anew"]):
-        return prove(words, never_builds)
+        return prove(words, builder, never_builds)
     if words == ["test"]:
-        return test(never_builds)
+        return test(builder, never_builds)
     if not is_output_open:
         tell("the output is closed, so nothing was run")
         return Status.OUTPUT
-    return run(words, never_builds)
+    return run(words, builder, never_builds)
 
 
-def run(words: Sequence[str], never_builds: bool) -> int:
+def run(words: Sequence[str], builder: FindBuilder, never_builds: bool) -> int:
     """Runs the proved program of these sources, or else a build without proofs."""
     try:
         words = filled(words)
@@ -69,31 +87,25 @@ def run(words: Sequence[str], never_builds: bool) -> int:
     if never_builds:
         stop(f"{why}, and {FORBIDDEN} to build one. Run ./issuer prove where programs are built")
     stop_without_sources("no program can be built")
-    from issuer_host.building.unproved import run_unproved
-
     tell(
         f"{why}: an UNPROVED build answers this run, in about a minute."
         " ./issuer prove makes the proved program, once for all later runs"
     )
-    return run_unproved(words)
+    return builder().run_unproved(words)
 
 
-def prove(words: Sequence[str], never_builds: bool) -> int:
+def prove(words: Sequence[str], builder: FindBuilder, never_builds: bool) -> int:
     if never_builds:
         stop(f"no program is built here: {FORBIDDEN} it")
     stop_without_sources("nothing can be proved")
-    from issuer_host.building import proving
-
-    return proving.prove(words[1:])
+    return builder().prove(words[1:])
 
 
-def test(never_builds: bool) -> int:
+def test(builder: FindBuilder, never_builds: bool) -> int:
     if never_builds:
         stop(f"nothing is tested here: {FORBIDDEN} to build a program")
     stop_without_sources("nothing can be tested")
-    from issuer_host.building import testing
-
-    return testing.test()
+    return builder().test()
 
 
 def stop_without_sources(what: str) -> None:
@@ -102,11 +114,11 @@ def stop_without_sources(what: str) -> None:
         stop(f"{what}: there are no sources here")
 
 
-def main(words: Sequence[str]) -> int:
+def main(words: Sequence[str], builder: FindBuilder) -> int:
     """Does what the words ask for. Returns the status, also of an interrupted run or an output that failed."""
     keep_from_others()
     try:
-        status = answer(words, open_descriptors())
+        status = answer(words, builder, open_descriptors())
         if sys.stdout:
             sys.stdout.flush()
         return status

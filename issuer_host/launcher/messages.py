@@ -2,7 +2,7 @@
 import sys
 from typing import NoReturn
 
-from issuer_host.statuses import Status
+from issuer_host.facts.statuses import Status
 
 
 def complain(line: str) -> None:

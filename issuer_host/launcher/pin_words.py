@@ -4,7 +4,7 @@ import secrets
 from collections.abc import Sequence
 from typing import Optional
 
-from issuer_host.commands import COMMANDS, PIN, SALT
+from issuer_host.facts.commands import COMMANDS, PIN, SALT
 
 PIN_FILE = "--pin-file"
 SALT_BYTES = 8

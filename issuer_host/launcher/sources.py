@@ -4,7 +4,7 @@ import os
 from collections.abc import Iterable
 from typing import NamedTuple
 
-from issuer_host.proof import sum_of
+from issuer_host.facts.proof import sum_of
 
 TOP = "issuer_main"
 PROOF_PARTS = ("src", "specs", "proofs")

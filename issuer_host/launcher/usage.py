@@ -1,5 +1,5 @@
 """The launcher's usage, of the table of commands."""
-from issuer_host.commands import COMMANDS, TABLE
+from issuer_host.facts.commands import COMMANDS, TABLE
 
 # What the launcher itself does, and how it is called.
 OF_LAUNCHER = (

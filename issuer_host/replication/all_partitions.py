@@ -3,15 +3,14 @@ import resource
 import signal
 import time
 
+from issuer_host.facts.statuses import Status
+from issuer_host.host.event_loop import new_loop
 from issuer_host.replication import positions
 from issuer_host.replication.node_file import NodeSettings
-from issuer_host.replication.partition_node import STOPPED, PartitionNode
+from issuer_host.replication.partition_node import PartitionNode, STOPPED
 from issuer_host.replication.rule import State
-from issuer_host.service.figures import KINDS_OF_NODE, Figures, kinds_at
-from issuer_host.service.loops import new_loop
-from issuer_host.service.notices import notify
-from issuer_host.service.readiness import Readiness
-from issuer_host.statuses import Status
+from issuer_host.telling.figures import Figures, KINDS_OF_NODE, kinds_at
+from issuer_host.telling.service_manager import Readiness, notify
 
 NAME = "node"
 LOOK_SECONDS = 0.5

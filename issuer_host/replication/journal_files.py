@@ -8,18 +8,18 @@ import os
 from collections.abc import Callable, Sequence
 from typing import Optional, Union
 
-from issuer_host.journals import MAX_RECORD_LINE, VERSION_LINE, journal_path
+from issuer_host.facts.journals import MAX_RECORD_LINE, VERSION_LINE, journal_path
+from issuer_host.facts.refusal import Refusal
+from issuer_host.facts.statuses import NOT_AGAIN, Status, meaning_of
+from issuer_host.files.run_mark import RunMark, lock_mark
+from issuer_host.files.seal_writer import Sealing
+from issuer_host.files.seals import Seals
+from issuer_host.host.event_loop import Loop
+from issuer_host.host.process import Host
 from issuer_host.replication.messages import NOTES, Record
 from issuer_host.replication.notes import Notes
 from issuer_host.replication.positions import Position
-from issuer_host.run_mark import RunMark, lock_mark
-from issuer_host.service.history_checks import is_locked
-from issuer_host.service.host import Host
-from issuer_host.service.loops import Loop
-from issuer_host.service.refusal import Refusal
-from issuer_host.service.sealing import Sealing
-from issuer_host.service.seals import Seals
-from issuer_host.statuses import NOT_AGAIN, Status, meaning_of
+from issuer_host.start.history_checks import is_locked
 
 PIECE = 1 << 16
 # A run of standby that is to end has so long to take what it was given.

@@ -11,7 +11,7 @@ A name is new for each barrier. A sequence only tells messages apart.
 import re
 from typing import NamedTuple, Union
 
-from issuer_host.limits import MAX_SHARDS
+from issuer_host.facts.limits import MAX_SHARDS
 
 # A partition's records: those of its shards' journals, and the notes of work on cards as one more shard.
 NOTES = MAX_SHARDS

@@ -28,12 +28,12 @@ import sys
 from collections.abc import Sequence
 from typing import NoReturn
 
-from issuer_host.journals import shards_of_files
+from issuer_host.facts.journals import shards_of_files
+from issuer_host.facts.refusal import Refusal, tell
+from issuer_host.facts.statuses import Status
 from issuer_host.replication import node_file, positions
-from issuer_host.service.careful_start import shards_of
-from issuer_host.service.journal_checks import create_journals
-from issuer_host.service.refusal import Refusal, tell
-from issuer_host.statuses import Status
+from issuer_host.start.careful_start import shards_of
+from issuer_host.start.journal_checks import create_journals
 
 NAME = "node"
 

@@ -8,9 +8,9 @@
 import json
 from typing import Any, NamedTuple, Optional
 
-from issuer_host.commands import CALLERS
+from issuer_host.facts.commands import CALLERS
+from issuer_host.facts.refusal import Refusal
 from issuer_host.replication.messages import NAME
-from issuer_host.service.refusal import Refusal
 
 MOST_PARTITIONS = 1_000
 # What a member may be, by its name; those that may be absent have a default.

@@ -11,12 +11,11 @@ import os
 from collections.abc import Callable
 from typing import Any
 
+from issuer_host.facts.refusal import Refusal
+from issuer_host.files.folders import folder_of, sync_folder
+from issuer_host.files.whole_writes import write_whole
+from issuer_host.orders.intent_log import Begun, ENDING, KNOWN, MOST_LINES, WorkFile
 from issuer_host.replication.messages import NOTES, Record
-from issuer_host.service.journal_checks import sync_folder
-from issuer_host.service.folders import folder_of
-from issuer_host.service.refusal import Refusal
-from issuer_host.service.work_file import ENDING, KNOWN, MOST_LINES, Begun, WorkFile
-from issuer_host.service.whole_writes import write_whole
 
 FIRST = "first"
 

@@ -13,30 +13,31 @@ import uuid
 from collections.abc import Callable
 from typing import Optional
 
-from issuer_host.answers import RECORDED
-from issuer_host.paths import HOME
+from issuer_host.broker import topology
+from issuer_host.broker.connection import Link
+from issuer_host.broker.replies import Replying
+from issuer_host.broker.reply_mac import ReplyMacs
+from issuer_host.broker.types import Channel, Delivery, Properties, Step
+from issuer_host.broker.unacknowledged import entry_of
+from issuer_host.commands.entry import without_cards
+from issuer_host.facts.answers import RECORDED
+from issuer_host.facts.faults import lasts
+from issuer_host.facts.paths import HOME
+from issuer_host.facts.refusal import Refusal, tell
+from issuer_host.facts.statuses import Status, meaning_of
+from issuer_host.host.event_loop import Action, Loop
+from issuer_host.host.lines import Entry
+from issuer_host.orders.partition_host import Outside, Serving
 from issuer_host.replication import positions
 from issuer_host.replication.journal_files import JournalFiles, Passing
-from issuer_host.replication.messages import NOTES, Message, MessageFault, Record, Records, parse, text_of
+from issuer_host.replication.messages import Message, MessageFault, NOTES, Record, Records, parse, text_of
 from issuer_host.replication.node_file import NodeSettings, PartitionSettings
 from issuer_host.replication.notes import NotedWork, Notes
 from issuer_host.replication.positions import Position
 from issuer_host.replication.rule import Answer, Bridge, Count, Diverged, Place, State
-from issuer_host.replication.stream import Place as StreamPlace
-from issuer_host.replication.stream import Stream
-from issuer_host.service import broker
-from issuer_host.service.careful_start import NODE, shards_of
-from issuer_host.service.faults import lasts
-from issuer_host.service.figures import Figures
-from issuer_host.service.flight import Entry
-from issuer_host.service.link import Link
-from issuer_host.service.loops import Action, Channel, Delivery, Loop, Properties, Step
-from issuer_host.service.passing import without_cards
-from issuer_host.service.refusal import Refusal, tell
-from issuer_host.service.replying import Replying
-from issuer_host.service.reply_mac import ReplyMacs
-from issuer_host.service.serving import Outside, Serving
-from issuer_host.statuses import Status, meaning_of
+from issuer_host.replication.stream import Place as StreamPlace, Stream
+from issuer_host.start.careful_start import NODE, shards_of
+from issuer_host.telling.figures import Figures
 
 CAREFUL_START = os.path.join(HOME, "deploy", "issuer-run")
 # What has the node begin that the queue delivers to. It is no request: a publisher can't write it to where it counts.
@@ -74,8 +75,8 @@ class PartitionNode:
         self.settings = settings
         self.figures = figures
         self.name = f"node: partition {settings.number}"
-        self.queue = broker.queue_of(settings.number)
-        parameters = broker.parameters_of(node.broker_file)
+        self.queue = topology.queue_of(settings.number)
+        parameters = topology.parameters_of(node.broker_file)
         parameters.heartbeat = HEARTBEAT
         self.link = Link(loop, parameters, self.steps_of, self.ready_link, self.lost)
         macs = ReplyMacs(node.broker_file)
@@ -165,7 +166,7 @@ class PartitionNode:
     # The connection
 
     def steps_of(self, channel: Channel) -> "list[Step]":
-        return broker.find_partition(channel, self.settings.number)
+        return topology.find_partition(channel, self.settings.number)
 
     def ready_link(self, channel: Channel) -> None:
         wait = self.not_before - time.monotonic()
@@ -196,7 +197,7 @@ class PartitionNode:
         self.journals = JournalFiles(self.loop, journal, shards, position, standby, self.name, self.failed)
         self.journals.open()
         place = StreamPlace(position.offset, position.digest)
-        self.stream = Stream(self.loop, broker.stream_of(self.settings.number), place, self.call, self.complain)
+        self.stream = Stream(self.loop, topology.stream_of(self.settings.number), place, self.call, self.complain)
         self.bridge = Bridge(self.node.machine, Count(position.barrier, position.counts), self.journals, self)
         self.kept = position
         self.rewritten = 0
@@ -308,10 +309,10 @@ class PartitionNode:
 
     def wake(self) -> None:
         if self.link.channel is not None:
-            self.link.wake(broker.RECORDS, self.queue, WAKE)
+            self.link.wake(topology.RECORDS, self.queue, WAKE)
 
     def take(self, _: Channel, delivery: Delivery, properties: Properties, body: bytes) -> None:
-        entry = Entry(delivery, properties, body)
+        entry = entry_of(delivery, properties, body)
         self.replying.flight.add(entry)
         self.guarded(lambda: self.delivered(entry))
 

@@ -14,12 +14,12 @@ import threading
 from collections.abc import Callable, Iterable
 from typing import Any, NamedTuple, Optional
 
-from issuer_host.journals import POSITION, VERSION_LINE, journal_path, old_journal_path, shards_of_files
-from issuer_host.replication.messages import LOGS, NAME, NOTES, Barrier, Mark, text_of
+from issuer_host.facts.journals import POSITION, VERSION_LINE, journal_path, old_journal_path, shards_of_files
+from issuer_host.facts.refusal import Refusal
+from issuer_host.host.event_loop import Loop
+from issuer_host.replication.messages import Barrier, LOGS, Mark, NAME, NOTES, text_of
 from issuer_host.replication.notes import read_notes, write_notes
 from issuer_host.replication.rule import NO_BARRIER
-from issuer_host.service.loops import Loop
-from issuer_host.service.refusal import Refusal
 
 # The offset before the first message.
 BEFORE = -1

@@ -16,7 +16,7 @@ import time
 from collections.abc import Sequence
 from typing import NamedTuple
 
-from issuer_host.service.refusal import tell
+from issuer_host.facts.refusal import tell
 
 NAME = "rejoin"
 # Whether this node runs, and has lost all others that its cluster has.

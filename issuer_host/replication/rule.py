@@ -27,7 +27,7 @@ import enum
 from collections.abc import Iterator
 from typing import NamedTuple, Optional, Protocol
 
-from issuer_host.replication.messages import LOGS, Barrier, Mark, Message, Record, Records
+from issuer_host.replication.messages import Barrier, LOGS, Mark, Message, Record, Records
 
 # The number of a shard, and a record's place in it.
 Place = tuple[int, int]

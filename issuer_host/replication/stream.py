@@ -16,11 +16,12 @@ from typing import Any, NamedTuple, Optional
 
 import pika
 
+from issuer_host.broker import topology
+from issuer_host.broker.types import Channel, Delivery, Properties
+from issuer_host.facts.refusal import Refusal
+from issuer_host.host.event_loop import Loop
 from issuer_host.replication.messages import Mark, text_of
 from issuer_host.replication.positions import BEFORE, digest_of, first_text
-from issuer_host.service import broker
-from issuer_host.service.loops import Channel, Delivery, Loop, Properties
-from issuer_host.service.refusal import Refusal
 
 # Messages that the broker sends before the first one of them is acknowledged, and so many are acknowledged together.
 PREFETCH, TOGETHER = 50, 20
@@ -96,7 +97,7 @@ class Stream:
     def flush(self) -> None:
         while self.is_open and self.unwritten and self.writing is not None and self.is_usable():
             text = self.unwritten.popleft()
-            self.writing.basic_publish(broker.RECORDS, self.name, text.encode("ascii"), WRITTEN, mandatory=True)
+            self.writing.basic_publish(topology.RECORDS, self.name, text.encode("ascii"), WRITTEN, mandatory=True)
 
     def write_anew(self) -> None:
         """Leaves the channel for another one: what is on its way may be lost."""

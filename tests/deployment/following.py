@@ -11,9 +11,9 @@ from contextlib import contextmanager
 from typing import Callable, Optional
 
 from checks import Tally, check_of
-from issuer_host.journals import VERSION_LINE, journal_path
-from issuer_host.paths import HOME
-from issuer_host.statuses import Status
+from issuer_host.facts.journals import VERSION_LINE, journal_path
+from issuer_host.facts.paths import HOME
+from issuer_host.facts.statuses import Status
 from runs import PANS, content_of
 
 RECORDS = [f"s {PANS[0]}ffff 00 {digit}\n" for digit in range(9)]

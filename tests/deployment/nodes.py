@@ -6,15 +6,15 @@ from typing import Any, NamedTuple
 
 from checks import Tally, check_of
 from deployment.running import Host, is_refused, new_host, run
-from issuer_host.journals import VERSION_LINE
+from issuer_host.facts.journals import VERSION_LINE
+from issuer_host.facts.refusal import Refusal
+from issuer_host.facts.statuses import Status
+from issuer_host.files.seals import Seals
+from issuer_host.orders.intent_log import MOST_LINES
 from issuer_host.replication import positions
 from issuer_host.replication.journal_files import JournalFiles
-from issuer_host.replication.messages import LOGS, NOTES, Barrier, Record
+from issuer_host.replication.messages import Barrier, LOGS, NOTES, Record
 from issuer_host.replication.notes import Notes, read_notes
-from issuer_host.service.refusal import Refusal
-from issuer_host.service.seals import Seals
-from issuer_host.service.work_file import MOST_LINES
-from issuer_host.statuses import Status
 from runs import PANS, SHARDS, write_text
 
 BARRIER = Barrier(3, "c0ffee", "m1")

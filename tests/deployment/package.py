@@ -7,10 +7,10 @@ import tempfile
 
 from checks import Check, Tally, check_of
 from deployment.running import Ran, fails, run, run_tool
-from issuer_host.paths import HOME
-from issuer_host.proof import sum_of
-from issuer_host.service.packaging.make_deb import NOT_SHIPPED, PRIVATE
-from issuer_host.statuses import Status
+from issuer_host.facts.paths import HOME
+from issuer_host.facts.proof import sum_of
+from issuer_host.facts.statuses import Status
+from issuer_host.packaging.make_deb import NOT_SHIPPED, PRIVATE
 from runs import content_of, write_text
 
 ENVIRONMENT = {

@@ -11,7 +11,7 @@ from typing import Any
 
 from checks import Tally, check_of
 from deployment.running import Ran, fails, run
-from issuer_host.partitions import partition_of
+from issuer_host.facts.partitions import partition_of
 from runs import configuration, content_of, write_text
 
 CARDS = 40

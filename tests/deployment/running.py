@@ -8,9 +8,9 @@ from contextlib import contextmanager
 from typing import Any
 
 from checks import Tally
-from issuer_host import journals
-from issuer_host.paths import HOME
-from issuer_host.statuses import Status
+from issuer_host.facts import journals
+from issuer_host.facts.paths import HOME
+from issuer_host.facts.statuses import Status
 from runs import configuration, write_text
 
 Ran = subprocess.CompletedProcess[str]

@@ -7,14 +7,14 @@ from functools import partial
 
 from checks import Check, Tally, check_of
 from deployment.running import run_tool
-from issuer_host.answers import ANSWERS, REFUSALS, kind_of
+from issuer_host.facts.answers import ANSWERS, REFUSALS, kind_of
+from issuer_host.facts.limits import WINDOW
+from issuer_host.facts.paths import HOME
+from issuer_host.facts.request_lines import pan_of_line
+from issuer_host.facts.statuses import NOT_RESTARTED
 from issuer_host.gateway.figures import Figures
-from issuer_host.limits import WINDOW
-from issuer_host.paths import HOME
-from issuer_host.request_lines import pan_of_line
-from issuer_host.service.hosting import LOAD_SECONDS
-from issuer_host.service.packaging.make_deb import ENCRYPTED, standby_of
-from issuer_host.statuses import NOT_RESTARTED
+from issuer_host.host.supervisor import LOAD_SECONDS
+from issuer_host.packaging.make_deb import ENCRYPTED, standby_of
 from runs import content_of, write_text
 
 # The greatest exposure that `systemd-analyze security` may find.
@@ -147,7 +147,7 @@ def figures_told() -> set[str]:
     """The names of the figures that the bridge, the commands and the gateway write."""
     found = set()
     for name in FIGURE_FILES:
-        text = content_of(os.path.join(HOME, "issuer_host/service", name))
+        text = content_of(os.path.join(HOME, "issuer_host/telling", name))
         found |= {match.strip('"') for match in re.findall(r'"issuer_\w+"', text)}
     return found | {name_of_figure(name) for name in re.findall(r"(?m)^# TYPE (\w+)", Figures(1).text())}
 

@@ -6,9 +6,9 @@ import subprocess
 
 from checks import Tally, check_of
 from deployment.running import Host, is_refused, new_host, run
-from issuer_host.journals import VERSION_LINE
-from issuer_host.proof import is_proved
-from issuer_host.statuses import Status
+from issuer_host.facts.journals import VERSION_LINE
+from issuer_host.facts.proof import is_proved
+from issuer_host.facts.statuses import Status
 from runs import PANS, SHARDS, content_of, write_text
 
 

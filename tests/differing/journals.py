@@ -7,8 +7,8 @@ from typing import NamedTuple
 from differing.damage import damaged, damaged_line
 from differing.pair import CLEAR, EXPORT, SERVE, SHOW, STANDBY, Pair
 from differing.traffic import Settings, Traffic
-from issuer_host.commands import CALLERS
-from issuer_host.journals import ENDING, VERSION_LINE, journal_path
+from issuer_host.facts.commands import CALLERS
+from issuer_host.facts.journals import ENDING, VERSION_LINE, journal_path
 from oracle.feed import feed_lines
 
 VERSION = VERSION_LINE.encode()

@@ -5,7 +5,7 @@ import os
 from collections.abc import Iterator, Sequence
 
 from checks import Tally
-from issuer_host.statuses import Status
+from issuer_host.facts.statuses import Status
 from oracle import command_line
 from runs import new_folder, words_of, write_bytes
 

@@ -6,7 +6,7 @@ from typing import Any
 
 from differing.pair import SERVE, Pair
 from differing.traffic import Settings
-from issuer_host.limits import MAX_CONFIGURATION_BYTES
+from issuer_host.facts.limits import MAX_CONFIGURATION_BYTES
 
 Path = tuple[Any, ...]
 NO_OBJECTS = (b"", b" ", b"[]", b"{", b"nul", b"null", b"1e999", b"\0", b"{}x", b"\xef\xbb\xbf{}", b"{} \x0c")

@@ -5,7 +5,7 @@ from collections.abc import Sequence
 
 from differing.pair import CLEAR, EXPORT, SERVE, SHOW, STANDBY, Pair
 from differing.traffic import Settings
-from issuer_host.commands import CALLERS
+from issuer_host.facts.commands import CALLERS
 from runs import words_of
 
 N = CALLERS.name

@@ -6,7 +6,7 @@ import subprocess
 import time
 from collections.abc import Iterable, Sequence
 
-from issuer_host.journals import journal_path, old_journal_path
+from issuer_host.facts.journals import journal_path, old_journal_path
 
 from durability import scenes
 from durability.disk import Disk, read_journals, records_of

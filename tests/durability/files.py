@@ -12,8 +12,8 @@ from collections.abc import Callable, Iterator
 from contextlib import ExitStack, contextmanager
 from typing import Optional
 
-from issuer_host.journals import journal_path, old_journal_path
-from issuer_host.paths import HOME
+from issuer_host.facts.journals import journal_path, old_journal_path
+from issuer_host.facts.paths import HOME
 
 from durability import scenes
 from durability.disk import Image, read_journals, write_journals
@@ -215,7 +215,7 @@ def a_limit_of_file_size_is_a_full_disk(tally: Tally) -> None:
     scene = Scene("", 2, ("serve", "--requests", "lines", *scenes.show()[1:]), (), {}, {"lines": lines})
     run = f"""import resource, sys
 sys.path.insert(0, {HOME!r})
-from issuer_host.launcher.running import run_program
+from issuer_host.launcher.program_run import run_program
 resource.setrlimit(resource.RLIMIT_FSIZE, (500, 500))
 sys.exit(run_program({[tally.watch.program, *scene.words]!r}).status)"""
     with new_folder() as folder:

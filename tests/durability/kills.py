@@ -8,7 +8,7 @@ import random
 from collections.abc import Iterator, Sequence
 from typing import NamedTuple
 
-from issuer_host.journals import journal_path, old_journal_path
+from issuer_host.facts.journals import journal_path, old_journal_path
 
 from durability import scenes
 from durability.disk import Disk, Image, read_journals, records_of

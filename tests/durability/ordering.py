@@ -3,7 +3,7 @@ import fcntl
 import os
 from collections.abc import Iterator, Sequence
 
-from issuer_host.journals import MAX_RECORD_LINE, journal_path, old_journal_path
+from issuer_host.facts.journals import MAX_RECORD_LINE, journal_path, old_journal_path
 
 from durability import scenes
 from durability.disk import O_CREAT, SYNCS, Disk, read_journals, records_of

@@ -4,7 +4,7 @@ import os
 import re
 from collections.abc import Collection
 
-from issuer_host.paths import HOME
+from issuer_host.facts.paths import HOME
 
 from durability.tally import Tally
 

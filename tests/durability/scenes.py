@@ -4,8 +4,8 @@ import os
 from collections.abc import Sequence
 from typing import NamedTuple, Optional
 
-from issuer_host.journals import VERSION_LINE, journal_path, old_journal_path, record_of
-from issuer_host.paths import HOME
+from issuer_host.facts.journals import VERSION_LINE, journal_path, old_journal_path, record_of
+from issuer_host.facts.paths import HOME
 
 from durability.disk import Image, write_journals
 

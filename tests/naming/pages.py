@@ -3,7 +3,7 @@ import os
 import re
 
 from checks import Tally
-from issuer_host.paths import HOME
+from issuer_host.facts.paths import HOME
 from naming.tree import ALLOWED, PARTS, Tree, found, text_of
 
 NAME = re.compile(r"[^\W\d][\w']*(?:-[\w']+)*!?")

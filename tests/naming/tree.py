@@ -6,7 +6,7 @@ import re
 import subprocess
 from collections.abc import Set
 
-from issuer_host.paths import HOME
+from issuer_host.facts.paths import HOME
 
 PARTS = ("src", "specs", "proofs")
 SCRIPTS = (

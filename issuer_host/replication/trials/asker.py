@@ -5,11 +5,11 @@ import uuid
 from collections.abc import Iterable, Iterator, Sequence
 from typing import Any, Optional
 
+from issuer_host.broker import topology
+from issuer_host.broker.connection import Link
+from issuer_host.broker.publisher import OnAnswer
+from issuer_host.broker.types import Channel, Step
 from issuer_host.replication.trials.brokers import HEARTBEAT_SECONDS
-from issuer_host.service import broker
-from issuer_host.service.asking import OnAnswer
-from issuer_host.service.link import Link
-from issuer_host.service.loops import Channel, Step
 from issuer_host.service.trials.patient import PatientAsker
 
 
@@ -46,7 +46,7 @@ class ClusterAsker(PatientAsker):
         self.link = link
 
     def steps_of(self, channel: Channel) -> list[Step]:
-        self.queue = f"{broker.REPLY_PREFIX}{uuid.uuid4().hex}"
+        self.queue = f"{topology.REPLY_PREFIX}{uuid.uuid4().hex}"
         return super().steps_of(channel)
 
 
@@ -87,7 +87,7 @@ class PacedAsker(ClusterAsker):
 
 
 def parameters_of(file: str) -> Any:
-    found = broker.parameters_of(file)
+    found = topology.parameters_of(file)
     found.heartbeat = HEARTBEAT_SECONDS
     found.blocked_connection_timeout = 2 * HEARTBEAT_SECONDS
     return found

@@ -13,11 +13,11 @@ import time
 from collections.abc import Callable, Mapping
 from typing import Optional
 
-from issuer_host.paths import HOME
+from issuer_host.broker.rules import NODE_MAY, OPERATOR_MAY, PUBLISHER_LIMITS, PUBLISHER_MAY
+from issuer_host.broker.settings import Permissions
+from issuer_host.broker.topology import MAX_MESSAGE
+from issuer_host.facts.paths import HOME
 from issuer_host.replication.trials.network import Machine, Network
-from issuer_host.service.broker import MAX_MESSAGE
-from issuer_host.service.broker_facts import Permissions
-from issuer_host.service.broker_rules import NODE_MAY, OPERATOR_MAY, PUBLISHER_LIMITS, PUBLISHER_MAY
 from issuer_host.service.trials.private_broker import COMMAND, CONTROL, LOOK_SECONDS
 
 REJOIN = os.path.join(HOME, "deploy", "rejoin")

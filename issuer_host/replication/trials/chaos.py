@@ -43,9 +43,9 @@ import time
 from collections.abc import Mapping, Sequence
 from typing import TYPE_CHECKING, NamedTuple, Optional
 
-from issuer_host.answers import reply_of
+from issuer_host.facts.answers import reply_of
+from issuer_host.facts.request_lines import pan_of_line
 from issuer_host.replication.trials import network
-from issuer_host.request_lines import pan_of_line
 from issuer_host.service.trials.cards import changed_line, distinct_lines
 from issuer_host.service.trials.chaos import REPEATED, why_left_out
 from issuer_host.service.trials.comparing import check_all
@@ -169,9 +169,9 @@ class Silences:
 
 def ask_in_rounds(machines: "Machines", rounds: Sequence[Round], dice: random.Random) -> Asked:
     """Asks all messages, with an event in each round."""
+    from issuer_host.broker.publisher import Question
     from issuer_host.replication.trials.asker import PacedAsker
     from issuer_host.replication.trials.events import happen
-    from issuer_host.service.asking import Question
 
     answers: dict[str, list[str]] = collections.defaultdict(list)
     found: dict[str, list[float]] = collections.defaultdict(list)
@@ -262,7 +262,7 @@ def play(options: Options, machines: "Machines", tally: Tally) -> None:
 
 
 def run(options: Options, tally: Tally) -> None:
-    from issuer_host.replication.trials.machines import PARTITIONS, Machines
+    from issuer_host.replication.trials.machines import Machines, PARTITIONS
 
     with tempfile.TemporaryDirectory(prefix="issuer-machines-") as room:
         make_configurations(room, options.program, PARTITIONS)

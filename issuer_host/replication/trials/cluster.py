@@ -21,11 +21,11 @@ import subprocess
 from collections.abc import Sequence
 from typing import NamedTuple, Optional
 
-from issuer_host.paths import HOME
+from issuer_host.facts.paths import HOME
+from issuer_host.facts.refusal import Refusal, tell
 from issuer_host.replication.trials import network as networks
-from issuer_host.replication.trials.brokers import OPERATOR, TICK_SECONDS, Brokers, write
+from issuer_host.replication.trials.brokers import Brokers, OPERATOR, TICK_SECONDS, write
 from issuer_host.replication.trials.network import Machine, Network
-from issuer_host.service.refusal import Refusal, tell
 from issuer_host.service.trials import private_broker
 
 PARTITIONS = 4

@@ -8,12 +8,12 @@ from typing import NamedTuple
 
 import pika
 
+from issuer_host.broker import topology
 from issuer_host.replication.messages import Barrier, Records
 from issuer_host.replication.trials.brokers import NODE
 from issuer_host.replication.trials.history import Reader, last_barrier, next_record
 from issuer_host.replication.trials.machines import Machines
 from issuer_host.replication.trials.network import Machine
-from issuer_host.service import broker
 
 AWAY_SECONDS = (2.0, 8.0)
 STOPPED_SECONDS = 30.0
@@ -153,7 +153,7 @@ def leader_of(machines: Machines, partition: int) -> Machine:
     text = machines.brokers.nodes[0].control("list_queues", "name", "leader", "--no-table-headers")
     for line in text.splitlines():
         name, _, leader = line.partition("\t")
-        if name == broker.stream_of(partition):
+        if name == topology.stream_of(partition):
             return next(machine for machine in machines.network.machines if leader.endswith(f"@{machine.address}"))
     raise RuntimeError(f"the stream of partition {partition} has no leader")
 

@@ -2,7 +2,7 @@
 import os
 import time
 
-from issuer_host.journals import journal_path
+from issuer_host.facts.journals import journal_path
 from issuer_host.replication.trials.asker import ClusterAsker
 from issuer_host.replication.trials.events import haunt
 from issuer_host.replication.trials.history import check_equal, whole_lines
@@ -36,7 +36,7 @@ def play_haunted(machines: Machines, tally: Tally, seconds: float = ANSWER_SECON
 
 
 def ask(machines: Machines, lines: list[str], tally: Tally, seconds: float) -> None:
-    from issuer_host.service.asking import Unanswered
+    from issuer_host.broker.publisher import Unanswered
 
     try:
         with ClusterAsker(machines.partitions, machines.publisher_files(), seconds=seconds) as asker:

@@ -7,13 +7,13 @@ from typing import Any
 
 import pika
 
-from issuer_host.journals import PAN_DIGITS, card_of_record, journal_path, records_of
-from issuer_host.replication.messages import NOTES, Barrier, Mark, Message, Record, parse, text_of
+from issuer_host.broker import topology
+from issuer_host.facts.journals import PAN_DIGITS, card_of_record, journal_path, records_of
+from issuer_host.replication.messages import Barrier, Mark, Message, NOTES, Record, parse, text_of
 from issuer_host.replication.notes import read_notes
 from issuer_host.replication.rule import Count
 from issuer_host.replication.trials.brokers import NODE, comes
 from issuer_host.replication.trials.machines import Machines
-from issuer_host.service import broker
 from issuer_host.service.trials.farm import SHARDS
 from issuer_host.service.trials.tally import Tally
 
@@ -34,13 +34,13 @@ class Reader:
     """
 
     def __init__(self, file: str, partition: int) -> None:
-        self.stream = broker.stream_of(partition)
-        self.connection = pika.BlockingConnection(broker.parameters_of(file))
+        self.stream = topology.stream_of(partition)
+        self.connection = pika.BlockingConnection(topology.parameters_of(file))
         self.writing: Any = self.connection.channel()
 
     def write(self, message: Message) -> None:
         body = text_of(message).encode()
-        self.writing.basic_publish(broker.RECORDS, self.stream, body, pika.BasicProperties(delivery_mode=2))
+        self.writing.basic_publish(topology.RECORDS, self.stream, body, pika.BasicProperties(delivery_mode=2))
 
     def read(self) -> list[Message]:
         """Returns all messages up to a mark of its own, which is written again while it doesn't come.

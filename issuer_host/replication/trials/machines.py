@@ -12,14 +12,13 @@ from typing import Optional, Union
 
 import pika
 
-from issuer_host.partitions import partition_configuration
-from issuer_host.replication.trials.brokers import NODE, OPERATOR, PUBLISHER, TICK_SECONDS, BrokerNode, wait_for
+from issuer_host.broker import topology
+from issuer_host.facts.partitions import partition_configuration
+from issuer_host.replication.trials.brokers import BrokerNode, NODE, OPERATOR, PUBLISHER, TICK_SECONDS, wait_for
 from issuer_host.replication.trials.clock import Clock, ClockFault, build
 from issuer_host.replication.trials.cluster import Cluster
 from issuer_host.replication.trials.network import Machine
-from issuer_host.replication.trials.nodes import NODE as NODE_COMMAND
-from issuer_host.replication.trials.nodes import ManagedNode
-from issuer_host.service import broker
+from issuer_host.replication.trials.nodes import ManagedNode, NODE as NODE_COMMAND
 
 PARTITIONS, CALLERS = 8, 1
 LOOK_SECONDS = 0.05
@@ -148,11 +147,11 @@ class Machines:
 
     def delete_queues(self) -> None:
         """Deletes the queues and the streams of another trial."""
-        connection = pika.BlockingConnection(broker.parameters_of(self.file_of(OPERATOR)))
+        connection = pika.BlockingConnection(topology.parameters_of(self.file_of(OPERATOR)))
         channel = connection.channel()
         for partition in range(self.partitions):
-            channel.queue_delete(broker.queue_of(partition))
-            channel.queue_delete(broker.stream_of(partition))
+            channel.queue_delete(topology.queue_of(partition))
+            channel.queue_delete(topology.stream_of(partition))
         connection.close()
 
     def mount_disks(self) -> None:

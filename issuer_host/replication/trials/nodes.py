@@ -9,7 +9,7 @@ import subprocess
 from collections.abc import Mapping, Sequence
 from typing import Optional, Union
 
-from issuer_host.paths import HOME
+from issuer_host.facts.paths import HOME
 from issuer_host.replication.trials.brokers import write
 from issuer_host.replication.trials.network import Machine, Network
 from issuer_host.service.trials.managed import children_of, not_restarted, signal_to

@@ -1,10 +1,10 @@
 """A machine that was away while more was written than a stream keeps: it stops, and begins from copies."""
 import pika
 
+from issuer_host.broker import topology
 from issuer_host.replication.trials.brokers import OPERATOR, comes
 from issuer_host.replication.trials.haunting import are_same, ask
 from issuer_host.replication.trials.machines import Machines
-from issuer_host.service import broker
 from issuer_host.service.trials.cards import distinct_lines
 from issuer_host.service.trials.farm import CARDS
 from issuer_host.service.trials.tally import Tally
@@ -19,13 +19,13 @@ STOPPED = ": stopped: "
 
 def keep_little(machines: Machines, partition: int) -> None:
     """Declares a partition's stream anew: it keeps little."""
-    connection = pika.BlockingConnection(broker.parameters_of(machines.file_of(OPERATOR)))
+    connection = pika.BlockingConnection(topology.parameters_of(machines.file_of(OPERATOR)))
     channel = connection.channel()
-    stream = broker.stream_of(partition)
+    stream = topology.stream_of(partition)
     channel.queue_delete(stream)
-    arguments = broker.stream_arguments(KEPT_BYTES) | {"x-stream-max-segment-size-bytes": SEGMENT_BYTES}
+    arguments = topology.stream_arguments(KEPT_BYTES) | {"x-stream-max-segment-size-bytes": SEGMENT_BYTES}
     channel.queue_declare(stream, durable=True, arguments=arguments)
-    channel.queue_bind(stream, broker.RECORDS, stream)
+    channel.queue_bind(stream, topology.RECORDS, stream)
     connection.close()
 
 

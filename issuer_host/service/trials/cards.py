@@ -5,8 +5,8 @@ import sys
 from collections.abc import Mapping, Sequence
 from typing import Any
 
-from issuer_host.paths import HOME
-from issuer_host.request_lines import pan_of_line
+from issuer_host.facts.paths import HOME
+from issuer_host.facts.request_lines import pan_of_line
 
 # The status that declines for an account, and the response code of its row.
 ACCOUNT, ACCOUNT_CODE = 1, "3531"

@@ -43,12 +43,12 @@ import time
 from collections.abc import Sequence
 from typing import NamedTuple, Optional
 
-from issuer_host.paths import PROGRAM
-from issuer_host.request_lines import pan_of_line
+from issuer_host.facts.paths import PROGRAM
+from issuer_host.facts.request_lines import pan_of_line
 from issuer_host.service.trials import private_broker
 from issuer_host.service.trials.cards import distinct_lines
 from issuer_host.service.trials.comparing import check_all
-from issuer_host.service.trials.farm import CARDS, DISK_BYTES, PARTITIONS, Farm, make_configurations
+from issuer_host.service.trials.farm import CARDS, DISK_BYTES, Farm, PARTITIONS, make_configurations
 from issuer_host.service.trials.tally import Tally
 from issuer_host.service.trials.work import Orders, by_request, check_work, some_declined
 
@@ -129,7 +129,7 @@ def events_of(options: Options, dice: random.Random, is_disk: bool) -> list[str]
 
 def ask_in_rounds(farm: Farm, order: Sequence[str], events: Sequence[str], dice: random.Random) -> Asked:
     """Asks all lines, with an event in each round."""
-    from issuer_host.service.asking import Question
+    from issuer_host.broker.publisher import Question
     from issuer_host.service.trials.events import happen
     from issuer_host.service.trials.patient import PatientAsker
 

@@ -3,11 +3,11 @@ import collections
 from collections.abc import Mapping, Sequence
 from typing import NamedTuple, Optional
 
-from issuer_host.answers import reply_of
-from issuer_host.journals import Decided, journal_path, record_of, records_of
-from issuer_host.partitions import partition_configuration, partition_of
-from issuer_host.request_lines import pan_of_line
-from issuer_host.service import offline
+from issuer_host.facts.answers import reply_of
+from issuer_host.facts.journals import Decided, journal_path, record_of, records_of
+from issuer_host.facts.partitions import partition_configuration, partition_of
+from issuer_host.facts.request_lines import pan_of_line
+from issuer_host.host import offline
 from issuer_host.service.trials.cards import ATC
 from issuer_host.service.trials.farm import SHARDS
 from issuer_host.service.trials.tally import Tally

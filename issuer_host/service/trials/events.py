@@ -6,8 +6,8 @@ from typing import NamedTuple
 
 import pika
 
-from issuer_host.service import broker as names
-from issuer_host.service.trials.farm import PARTITIONS, Farm
+from issuer_host.broker import topology as names
+from issuer_host.service.trials.farm import Farm, PARTITIONS
 from issuer_host.service.trials.hostile import publish_deaf, publish_hostile
 from issuer_host.service.trials.managed import KILL, STOP, TERMINATE, signal_to
 from issuer_host.service.trials.publisher import Publisher

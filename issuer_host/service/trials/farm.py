@@ -8,12 +8,12 @@ import threading
 import time
 from typing import Optional, Union
 
-from issuer_host.partitions import partition_configuration, partition_journal
-from issuer_host.paths import HOME, PROGRAM
-from issuer_host.service import offline
+from issuer_host.facts.partitions import partition_configuration, partition_journal
+from issuer_host.facts.paths import HOME, PROGRAM
+from issuer_host.host import offline
 from issuer_host.service.trials.cards import whole_configuration, with_account_row
 from issuer_host.service.trials.installed import Installed
-from issuer_host.service.trials.managed import GO_ON, TERMINATE, ManagedBridge
+from issuer_host.service.trials.managed import GO_ON, ManagedBridge, TERMINATE
 from issuer_host.service.trials.private_broker import PrivateBroker
 from issuer_host.service.trials.two_addresses import command_before, url_file_of, without_inet6
 

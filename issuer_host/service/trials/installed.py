@@ -4,9 +4,9 @@ import os
 import shutil
 import time
 
-from issuer_host.proof import sum_of
-from issuer_host.service.packaging.make_deb import PRIVATE, add_commands, add_package, add_program
-from issuer_host.service.packaging.tree import Tree
+from issuer_host.facts.proof import sum_of
+from issuer_host.packaging.make_deb import PRIVATE, add_commands, add_package, add_program
+from issuer_host.packaging.tree import Tree
 
 NEW = ".dpkg-new"
 # Between the program and the record of its proof, so that a start falls between them.

@@ -10,7 +10,7 @@ import time
 from collections.abc import Callable, Sequence
 from typing import Optional, Union
 
-from issuer_host.paths import HOME
+from issuer_host.facts.paths import HOME
 
 UNIT = os.path.join(HOME, "deploy/units/issuer@.service")
 WATCHDOG_SECONDS = 5.0

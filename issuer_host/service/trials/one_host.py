@@ -5,9 +5,9 @@ import sys
 import time
 from collections.abc import Iterator, Mapping, Sequence
 
-from issuer_host.answers import FRESH
-from issuer_host.service.host import Host
-from issuer_host.service.loops import new_loop
+from issuer_host.facts.answers import FRESH
+from issuer_host.host.event_loop import new_loop
+from issuer_host.host.process import Host
 
 
 class OneHost:

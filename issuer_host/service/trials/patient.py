@@ -1,6 +1,6 @@
 """A publisher that asks on while its partition's queue is gone."""
-from issuer_host.service.asking import Asker, Question
-from issuer_host.service.link import Confirm
+from issuer_host.broker.connection import Confirm
+from issuer_host.broker.publisher import Asker, Question
 
 
 class PatientAsker(Asker):

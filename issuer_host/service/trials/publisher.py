@@ -7,7 +7,7 @@ from typing import Any, Optional
 
 import pika
 
-from issuer_host.service import broker
+from issuer_host.broker import topology
 from issuer_host.service.trials.private_broker import PrivateBroker
 
 # Bits of the properties that a raw message has.
@@ -55,10 +55,10 @@ class Publisher:
     """A connection of its own, with a reply queue that it reads or doesn't."""
 
     def __init__(self, private: PrivateBroker, url: Optional[str] = None) -> None:
-        parameters = pika.URLParameters(url) if url else broker.parameters_of(private.url_file)
+        parameters = pika.URLParameters(url) if url else topology.parameters_of(private.url_file)
         self.connection = pika.BlockingConnection(parameters)
         self.channel: Any = self.connection.channel()
-        self.queue = f"{broker.REPLY_PREFIX}{uuid.uuid4().hex}"
+        self.queue = f"{topology.REPLY_PREFIX}{uuid.uuid4().hex}"
 
     def __enter__(self) -> "Publisher":
         return self
@@ -74,9 +74,9 @@ class Publisher:
 
     def declare_replies(self, **arguments: object) -> None:
         """Declares its reply queue, with the arguments that publishers have or others."""
-        found: Mapping[str, object] = arguments or broker.REPLY_ARGUMENTS
+        found: Mapping[str, object] = arguments or topology.REPLY_ARGUMENTS
         self.channel.queue_declare(self.queue, durable=True, arguments=found)
-        self.channel.queue_bind(self.queue, broker.REPLIES, self.queue)
+        self.channel.queue_bind(self.queue, topology.REPLIES, self.queue)
 
     def publish(self, partition: int, body: bytes, correlation: str = "", headers: bytes = b"") -> str:
         """Publishes a message, and returns its correlation id."""
@@ -84,7 +84,7 @@ class Publisher:
         properties: Any = pika.BasicProperties(delivery_mode=2, correlation_id=correlation, reply_to=self.queue)
         if headers:
             properties = RawProperties(headers, correlation, self.queue)
-        self.channel.basic_publish(broker.REQUESTS, str(partition), body, properties)
+        self.channel.basic_publish(topology.REQUESTS, str(partition), body, properties)
         return correlation
 
     def depth(self, queue: str) -> int:

@@ -19,8 +19,8 @@ import time
 from collections.abc import Mapping, Sequence
 from typing import NamedTuple, Optional
 
-from issuer_host.partitions import partition_configuration, partition_journal, partition_of
-from issuer_host.service import offline
+from issuer_host.facts.partitions import partition_configuration, partition_journal, partition_of
+from issuer_host.host import offline
 from issuer_host.service.trials import private_broker
 from issuer_host.service.trials.cards import distinct_lines, whole_configuration
 from issuer_host.service.trials.farm import command_of, words_of_program
@@ -220,7 +220,7 @@ def measure_behind(
     lines: Sequence[str],
     row: Row,
 ) -> Measured:
-    from issuer_host.service.asking import Asker, Question
+    from issuer_host.broker.publisher import Asker, Question
 
     taken: list[float] = []
 

@@ -7,12 +7,12 @@ import time
 from collections.abc import Callable, Sequence
 from typing import Any, Optional
 
-from issuer_host.partitions import partition_configuration, partition_journal
-from issuer_host.service import broker as names
-from issuer_host.service import offline
+from issuer_host.broker import topology as names
+from issuer_host.facts.partitions import partition_configuration, partition_journal
+from issuer_host.host import offline
 from issuer_host.service.trials.cards import whole_configuration
 from issuer_host.service.trials.farm import command_of, words_of_program
-from issuer_host.service.trials.managed import GO_ON, TERMINATE, ManagedBridge
+from issuer_host.service.trials.managed import GO_ON, ManagedBridge, TERMINATE
 from issuer_host.service.trials.private_broker import PrivateBroker
 
 LOOK_SECONDS = 0.02

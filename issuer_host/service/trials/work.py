@@ -6,13 +6,13 @@ import time
 from collections.abc import Mapping, Sequence
 from typing import NamedTuple, Optional
 
-from issuer_host.journals import Decided, Queued, Record, StatusSet, journal_path, record_of, records_of
-from issuer_host.partitions import partition_of
-from issuer_host.request_lines import QUEUE, SET_STATUS, pan_of_line
-from issuer_host.service import ordering
-from issuer_host.service.declines import body_of
-from issuer_host.service.order_text import BEFORE, DONE
-from issuer_host.service.refusal import Refusal
+from issuer_host.facts.journals import Decided, Queued, Record, StatusSet, journal_path, record_of, records_of
+from issuer_host.facts.partitions import partition_of
+from issuer_host.facts.refusal import Refusal
+from issuer_host.facts.request_lines import QUEUE, SET_STATUS, pan_of_line
+from issuer_host.orders import client
+from issuer_host.orders.declines import body_of
+from issuer_host.orders.texts import BEFORE, DONE
 from issuer_host.service.trials.cards import ACCOUNT, ACCOUNT_CODE
 from issuer_host.service.trials.farm import SHARDS
 from issuer_host.service.trials.tally import Tally
@@ -93,7 +93,7 @@ class Orders:
         end = time.monotonic() + self.seconds
         while time.monotonic() < end:
             try:
-                reply = ordering.reply_of(ordering.bridges_of(self.farm.sockets(partition)), number, line)
+                reply = client.reply_of(client.bridges_of(self.farm.sockets(partition)), number, line)
             except Refusal:
                 reply = ""
             word, _, answer = reply.partition(" ")

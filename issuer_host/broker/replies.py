@@ -1,0 +1,89 @@
+"""Sends a partition's answers to their reply queues, and acknowledges their requests."""
+import time
+from collections.abc import Callable
+from typing import Optional, Protocol
+
+from issuer_host.broker import topology
+from issuer_host.broker.connection import Confirm, Link
+from issuer_host.broker.refusing_queues import DeafQueues
+from issuer_host.broker.reply_mac import ReplyMacs
+from issuer_host.broker.unacknowledged import Flight
+from issuer_host.facts.refusal import tell
+from issuer_host.host.event_loop import Loop
+from issuer_host.host.lines import Entry
+
+# An answer that its reply queue refuses is sent again, so often, unless the queue refused others just before.
+TRIES = 3
+AGAIN_SECONDS = 0.2
+
+
+class ReplyFigures(Protocol):
+    """Counts the answers, and what became of them at the broker."""
+
+    def answered(self, answer: str, seconds: Optional[float]) -> None:
+        ...
+
+    def answer_returned(self) -> None:
+        """Its reply queue was gone."""
+
+    def answer_dropped(self) -> None:
+        """Its reply queue refused it."""
+
+
+class Replying:
+    """The requests in flight of a connection, and their answers. `on_settled` is called after each request."""
+
+    def __init__(
+        self,
+        loop: Loop,
+        link: Link,
+        macs: ReplyMacs,
+        figures: ReplyFigures,
+        on_settled: Callable[[], object],
+        name: str,
+    ) -> None:
+        self.loop = loop
+        self.link = link
+        self.macs = macs
+        self.figures = figures
+        self.on_settled = on_settled
+        # Who tells of it.
+        self.name = name
+        self.flight = Flight()
+        self.deaf = DeafQueues()
+
+    def settle(self, entry: Entry, is_acknowledged: bool) -> None:
+        channel = self.link.channel
+        if channel:
+            self.flight.settle(entry, is_acknowledged, channel)
+        self.on_settled()
+
+    def is_current(self, entry: Entry) -> bool:
+        """Whether an entry is still this connection's to answer."""
+        return self.link.channel is not None and entry in self.flight
+
+    def send(self, entry: Entry, text: str, tries: int = TRIES) -> None:
+        """Sends an answer. One that nobody takes is dropped: it is recorded, and asked again it is `kept`."""
+        if not self.is_current(entry):
+            return
+
+        def confirmed(how: Confirm) -> None:
+            if how is Confirm.NACKED and tries > 1 and not self.deaf.has(entry.reply_to):
+                self.loop.call_later(AGAIN_SECONDS, lambda: self.send(entry, text, tries - 1))
+                return
+            if how is Confirm.NACKED:
+                self.drop(entry)
+            if how is Confirm.RETURNED:
+                self.figures.answer_returned()
+            self.figures.answered(text, time.monotonic() - entry.began)
+            self.settle(entry, True)
+
+        body = self.macs.sealed(entry.correlation, entry.line, text)
+        self.link.publish(topology.REPLIES, entry.reply_to, body, entry.correlation, confirmed)
+
+    def drop(self, entry: Entry) -> None:
+        """Drops an answer that its reply queue refuses."""
+        if not self.deaf.has(entry.reply_to):
+            tell(self.name, f"a reply queue refused an answer: {str(entry.reply_to)[:80]!r}")
+        self.deaf.add(entry.reply_to)
+        self.figures.answer_dropped()

@@ -1,0 +1,134 @@
+"""Declares the exchanges and the quorum queues of all partitions at the broker, or says what the broker lacks.
+
+usage: queues --partitions P [--streams] [--stream-bytes N] [--broker-file FILE]
+       queues --check --partitions P [--streams] [--broker-file FILE] [--operator USER] [--bridge USER] [--vhost NAME]
+              [--control COMMAND]
+
+Run it once, before the first bridge, and again for more partitions; never two at a time. What exists as it should be
+stays. A queue that exists with other arguments is refused with status 1: delete it while it is empty, and declare it
+again.
+
+--streams       declares the streams of all partitions too, for nodes on several machines (deploy/node)
+--stream-bytes  what a stream keeps (2,000,000,000): a machine that was away while more was written begins from copies
+
+--check         changes nothing, and asks the broker of this machine by rabbitmqctl, as root. It prints a line for each
+            thing that is missing, with the command that mends it: users and what they may do, their limits, policies,
+            queues and bindings, sizes, listeners and TLS. The status is 1 if something is
+--operator      the user of whoever runs this command (issuer-operator)
+--bridge        the user of the bridges or nodes (issuer-bridge); all others are publishers
+--vhost         the virtual host (/)
+--control       another command than rabbitmqctl
+"""
+import argparse
+import os
+from collections.abc import Callable, Sequence
+from typing import Any, NamedTuple, Optional, cast
+
+import pika
+
+from issuer_host.broker import topology
+from issuer_host.broker.rules import Expected, of_broker_file, what_is_missing
+from issuer_host.broker.settings import COMMAND, Control, facts_of
+from issuer_host.broker.types import Channel
+from issuer_host.facts.refusal import Refusal, tell
+
+SAVED_SECONDS = 2
+
+
+class Options(NamedTuple):
+    """The words of the command."""
+
+    partitions: int
+    streams: bool
+    stream_bytes: int
+    broker_file: Optional[str]
+    check: bool
+    operator: str
+    bridge: str
+    vhost: str
+    control: str
+
+
+class Once:
+    """A blocking channel with the calls that the steps make."""
+
+    def __init__(self, channel: Any) -> None:
+        self.channel = channel
+
+    def __getattr__(self, name: str) -> Callable[..., None]:
+        def call(*words: Any, callback: Callable[[None], object], **more: Any) -> None:
+            if name == "exchange_declare":
+                more = {"exchange_type": words[1]} | more
+                words = words[:1]
+            getattr(self.channel, name)(*words, **more)
+            callback(None)
+
+        return call
+
+
+def options_of(words: Sequence[str]) -> Options:
+    parser = argparse.ArgumentParser(usage=__doc__)
+    parser.add_argument("--partitions", type=int, required=True)
+    parser.add_argument("--streams", action="store_true")
+    parser.add_argument("--stream-bytes", type=int, default=topology.STREAM_BYTES)
+    parser.add_argument("--broker-file")
+    parser.add_argument("--check", action="store_true")
+    parser.add_argument("--operator", default="issuer-operator")
+    parser.add_argument("--bridge", default="issuer-bridge")
+    parser.add_argument("--vhost", default="/")
+    parser.add_argument("--control", default=COMMAND)
+    return Options(**vars(parser.parse_args(words)))
+
+
+def declare(options: Options) -> None:
+    connection = pika.BlockingConnection(topology.parameters_of(options.broker_file))
+    channel = cast(Channel, Once(connection.channel()))
+    steps = topology.declare_exchanges(channel)
+    for partition in range(options.partitions):
+        steps += topology.declare_partition(channel, partition)
+        if options.streams:
+            steps += topology.declare_stream(channel, partition, options.stream_bytes)
+    for step in steps:
+        step(lambda _: None)
+    # (the broker writes its list of quorum queues twice a second: killed before, it would bring a queue back without a
+    # leader)
+    connection.sleep(SAVED_SECONDS)
+    connection.close()
+
+
+def check(options: Options) -> list[str]:
+    """Returns what the broker lacks."""
+    expected = Expected(options.partitions, options.operator, options.bridge, options.vhost, options.streams)
+    found = what_is_missing(facts_of(Control(options.control, options.vhost)), expected)
+    if options.broker_file:
+        with open(options.broker_file, encoding="utf-8") as file:
+            found += of_broker_file(file.read(), os.fstat(file.fileno()).st_mode)
+    return found
+
+
+def run_check(options: Options) -> int:
+    found = check(options)
+    for line in found:
+        print(f"missing: {line}")
+    if not found:
+        print("nothing is missing")
+    return 1 if found else 0
+
+
+def run(options: Options) -> int:
+    if options.check:
+        return run_check(options)
+    declare(options)
+    print(f"{options.partitions} partitions' queues{' and streams' * options.streams} are declared")
+    return 0
+
+
+def main(words: Sequence[str]) -> int:
+    options = options_of(words)
+    try:
+        return run(options)
+    except Refusal as refusal:
+        tell("queues", str(refusal))
+    except (OSError, pika.exceptions.AMQPError) as fault:
+        tell("queues", repr(fault))
+    return 1

@@ -1,0 +1,94 @@
+"""Seals the records of a partition's journals while its host writes them."""
+from issuer_host.facts.answers import RECORDED
+from issuer_host.facts.limits import MAX_SHARDS
+from issuer_host.facts.refusal import Refusal, tell
+from issuer_host.files.durable_lines import FollowedJournal
+from issuer_host.files.run_mark import lock_mark
+from issuer_host.files.seals import Seals, seals_of
+
+# So many pieces of a journal are sealed at a time, and so many of all journals are looked through for the records that
+# are sealed next, so that the bridge's loop goes on.
+PIECES = 16
+LOOKED_PIECES = 256
+
+
+class Sealing:
+    """The journals that one run of a host writes. A fault ends the sealing and nothing else: the next start seals."""
+
+    def __init__(self, name: str, by: str = "bridge") -> None:
+        self.name = name
+        # Who tells of a fault.
+        self.by = by
+        self.journals: dict[int, tuple[FollowedJournal, Seals]] = {}
+        self.durable: dict[int, int] = {}
+        self.is_over = False
+
+    def answer(self, text: str) -> None:
+        """Takes an answer: the record that it names is durable."""
+        word, _, place = text.partition(" ")
+        numbers = place.split(" ", 2)
+        if word in RECORDED and len(numbers) > 1:
+            self.are_durable(int(numbers[0]), int(numbers[1]) + 1)
+
+    def are_durable(self, shard: int, count: int) -> None:
+        """So many records of a shard are durable."""
+        self.durable[shard] = max(self.durable.get(shard, 0), count)
+
+    def look(self) -> None:
+        """Seals what is durable. Long journals that this run hasn't sealed yet take several looks."""
+        if self.is_over:
+            return
+        left = LOOKED_PIECES
+        try:
+            for shard, count in self.durable.items():
+                left -= self.seal(shard, count, left)
+        except (OSError, Refusal) as fault:
+            tell(self.by, f"the journals aren't sealed any more until the next start: {fault}")
+            self.close()
+
+    def seal(self, shard: int, durable: int, most: int) -> int:
+        """Seals what is durable of a shard. Returns how many pieces were looked through, so many at most."""
+        if shard not in self.journals and shard < MAX_SHARDS:
+            followed = FollowedJournal(shard, self.name, 0)
+            self.journals[shard] = followed, Seals(followed.path)
+        followed, seals = self.journals[shard]
+        with seals.locked():
+            if followed.index != seals.count:
+                # (another process seals them too, or a run before this one did)
+                followed.go_to(seals.count)
+            looked = followed.find(most)
+            if followed.at is None:
+                return looked
+            for _ in range(PIECES):
+                lines = followed.durable_lines(durable)
+                if not lines:
+                    break
+                seals.append(seals_of(seals.last(), lines))
+                for line in lines:
+                    followed.wrote(line)
+        return looked
+
+    def close(self) -> None:
+        self.is_over = True
+        for followed, seals in self.journals.values():
+            followed.close()
+            seals.__exit__()
+        self.journals.clear()
+
+    def end(self) -> None:
+        """The host has ended: what is appended from now on no run wrote. If another run has begun, that one says so."""
+        self.close()
+        try:
+            mark = lock_mark(self.name, creates=False)
+        except OSError as fault:
+            tell(self.by, f"the end of the run isn't marked: {fault.strerror}")
+            return
+        if mark is None:
+            return
+        try:
+            mark.has_ended()
+        except OSError as fault:
+            tell(self.by, f"the end of the run isn't marked: {fault.strerror}")
+        finally:
+            # (while it is locked no other run begins)
+            mark.close()

@@ -1,0 +1,178 @@
+"""The tables of docs/INTEGRATION.md as data: what becomes of a message's elements, and of an answer.
+
+`tests/gateway` compares page and code.
+"""
+
+from typing import NamedTuple, Optional
+
+from issuer_host.facts.answers import Refusal
+
+EDITIONS = ("1987", "1993")
+
+# The elements that the gateway itself reads or writes. They have one number in both editions, the date apart.
+PAN, PROCESSING, AMOUNT, TRACK_2, PSN = 2, 3, 4, 35, 23
+APPROVAL, CODE, CURRENCY, CHIP = 38, 39, 49, 55
+DATE = {"1987": 13, "1993": 12}
+CURRENCY_TAG = "5F2A"
+
+
+class RequestRow(NamedTuple):
+    """What an element becomes in a request line: the tag of an object, in hexadecimal.
+
+    `is_compared`: if element 55 has the tag too, whether the two have to agree.
+    """
+
+    element: dict[str, int]
+    tag: str
+    is_compared: bool
+    # The element's length, or 0 if it varies.
+    length: dict[str, int]
+
+    @property
+    def is_used(self) -> bool:
+        """Whether the element matters if 55 has the tag: it is compared, or it says of what currency the amount is."""
+        return self.is_compared or self.tag == CURRENCY_TAG
+
+
+def both(number: int) -> dict[str, int]:
+    return {edition: number for edition in EDITIONS}
+
+
+# In the order in which a line has their objects. Each is taken only if element 55 lacks the tag. The amount is compared
+# in one currency alone.
+REQUEST_ROWS = (
+    RequestRow(both(PAN), "5A", True, both(0)),
+    RequestRow(both(TRACK_2), "5A", True, both(0)),
+    RequestRow(both(PSN), "5F34", True, both(3)),
+    RequestRow(both(AMOUNT), "9F02", True, both(12)),
+    RequestRow(both(CURRENCY), CURRENCY_TAG, False, both(3)),
+    RequestRow(both(PROCESSING), "9C", False, both(6)),
+    RequestRow(DATE, "9A", False, {"1987": 4, "1993": 12}),
+)
+
+
+class Outcome(NamedTuple):
+    """What a message came to: its code in element 39, by edition."""
+
+    code: dict[str, str]
+
+
+def outcome(of_1987: str, of_1993: str) -> Outcome:
+    return Outcome({"1987": of_1987, "1993": of_1993})
+
+
+ACCEPTED = outcome("00", "800")
+BAD_FORMAT = outcome("30", "904")
+UNSUPPORTED = outcome("40", "115")
+NO_DECISION = outcome("91", "907")
+MALFUNCTION = outcome("96", "909")
+
+REFUSALS: dict[Refusal, Outcome] = {
+    Refusal.BAD_LINE: MALFUNCTION,
+    Refusal.BAD_TLV: BAD_FORMAT,
+    Refusal.MISSING: BAD_FORMAT,
+    Refusal.BAD_FIELD: BAD_FORMAT,
+    Refusal.REPEATED: BAD_FORMAT,
+    Refusal.UNKNOWN_CARD: outcome("14", "111"),
+    Refusal.NOT_ARQC: outcome("12", "902"),
+    Refusal.UNKNOWN_KEY: MALFUNCTION,
+    Refusal.BAD_CRYPTOGRAM: outcome("05", "100"),
+    Refusal.BELOW_WINDOW: outcome("05", "100"),
+    Refusal.TAKEN: outcome("05", "100"),
+    # (only if it outlasts the time limit)
+    Refusal.PENDING: NO_DECISION,
+    Refusal.STORE_FAULT: NO_DECISION,
+}
+# These three are written to the log, the card's PAN masked: somebody has to look at the card.
+FLAGGED = (Refusal.BAD_CRYPTOGRAM, Refusal.BELOW_WINDOW, Refusal.TAKEN)
+
+# The action codes of 1993 for response codes of the host's table; in 1987 element 39 is the response code itself.
+ACTION_CODES = {
+    "00": "000",
+    "01": "107",
+    "02": "108",
+    "03": "109",
+    "04": "200",
+    "05": "100",
+    "10": "002",
+    "11": "003",
+    "12": "902",
+    "13": "110",
+    "14": "111",
+    "33": "201",
+    "34": "202",
+    "36": "204",
+    "38": "206",
+    "41": "208",
+    "43": "209",
+    "51": "116",
+    "54": "101",
+    "55": "117",
+    "57": "119",
+    "58": "120",
+    "59": "102",
+    "61": "121",
+    "62": "104",
+    "63": "122",
+    "65": "123",
+    "75": "106",
+    "91": "907",
+    "96": "909",
+}
+# For a response code that the edition can't express: by whether the host approves.
+OTHER_CODES = {True: outcome("00", "000"), False: outcome("05", "100")}
+
+
+def code_of(response_code: bytes, approves: bool, edition: str) -> str:
+    """Element 39 of a decision."""
+    text = response_code.decode("latin-1")
+    if edition == "1987" and text.isascii() and text.isalnum():
+        return text
+    if edition == "1993" and text in ACTION_CODES:
+        return ACTION_CODES[text]
+    return OTHER_CODES[approves].code[edition]
+
+
+def approval_code(shard: int, place: int) -> str:
+    """Element 38: six digits or letters, never 000000, that no other decision of a host has.
+
+    They come again after 136,048,895 records of a shard.
+    """
+    number = (place * 16 + shard) % (36**6 - 1) + 1
+    digits = ""
+    for _ in range(6):
+        number, digit = divmod(number, 36)
+        digits = "0123456789ABCDEFGHIJKLMNOPQRSTUVWXYZ"[digit] + digits
+    return digits
+
+
+# What is done with a message, by its type's second, third and fourth digits (class, function, origin).
+DECIDE, ECHO, DECLINE, PASS_OVER = "decide", "echo", "decline", "pass over"
+REQUEST_CLASSES, NETWORK_CLASS = "12", "8"
+ACQUIRER = "01"
+
+
+def what_to_do(kind: str) -> str:
+    """Says what is done with a message of a type, as 0100."""
+    of_class, function, origin = kind[1], kind[2], kind[3]
+    if function not in "02":
+        return PASS_OVER
+    if of_class == NETWORK_CLASS:
+        return ECHO
+    if of_class in REQUEST_CLASSES and function == "0" and origin in ACQUIRER:
+        return DECIDE
+    return DECLINE
+
+
+def response_type(kind: str) -> str:
+    """The type of a message's response: that of 0100 and of its repeat 0101 is 0110."""
+    function, origin = int(kind[2]) + 1, kind[3]
+    return f"{kind[:2]}{function}{int(origin) - int(origin) % 2}"
+
+
+def refusal_of(text: str) -> Optional[Refusal]:
+    """The refusal of this number, or None."""
+    try:
+        return Refusal(int(text))
+    except ValueError:
+        return None

@@ -1,0 +1,54 @@
+"""Runs of the program over journals that no host serves, each by issuer-run."""
+import os
+import subprocess
+from collections.abc import Iterable, Sequence
+from typing import Optional
+
+from issuer_host.facts.paths import HOME
+from issuer_host.facts.show_lines import ShownCard, cards_of
+from issuer_host.facts.statuses import meaning_of
+
+CAREFUL_START = os.path.join(HOME, "deploy", "issuer-run")
+
+Card = tuple[str, str]
+
+
+class Failed(Exception):
+    """A run that ended with another status than 0, and why."""
+
+    def __init__(self, status: int, text: str) -> None:
+        super().__init__(text)
+        self.status = status
+
+
+def run(
+    words: Sequence[str],
+    config: str,
+    journal: str,
+    program: Optional[str] = None,
+    begins: bool = False,
+    given: str = "",
+) -> str:
+    """Returns what a command prints over a configuration and journals.
+
+    `program` is another one than the proved one, and `given` is what it reads from its input.
+    """
+    command = [CAREFUL_START, *["--begin"] * begins, *(["--program", program] if program else [])]
+    command += [words[0], "--config", config, "--journal", journal, *words[1:]]
+    done = subprocess.run(command, input=given, capture_output=True, text=True, check=False)
+    if done.returncode:
+        last = done.stdout.strip().rpartition("\n")[2]
+        said = done.stderr.strip() or f"{last}: {meaning_of(done.returncode)}"
+        raise Failed(done.returncode, said)
+    return done.stdout
+
+
+def show(config: str, journal: str, program: Optional[str] = None, begins: bool = False) -> dict[Card, ShownCard]:
+    """Returns what is shown of each card, by PAN and PSN."""
+    return cards_of(run(["show"], config, journal, program, begins))
+
+
+def serve(lines: Iterable[str], config: str, journal: str, program: Optional[str] = None) -> list[str]:
+    """Returns the answers to lines, in their order."""
+    given = "".join(f"{line}\n" for line in lines)
+    return run(["serve", "--requests", "/dev/stdin"], config, journal, program, given=given).splitlines()

@@ -1,0 +1,113 @@
+"""Whether the built program is the proved one of the sources at hand, and its runs."""
+import hashlib
+import json
+import os
+import sys
+from collections.abc import Sequence
+from typing import Any, Optional
+
+from issuer_host.facts.commands import CLEARING, JOURNAL, OVER_JOURNALS, value_of
+from issuer_host.facts.paths import BUILD, HOME, PROGRAM, RECORD
+from issuer_host.facts.proof import read_record
+from issuer_host.files.run_mark import lock_mark
+from issuer_host.launcher.causes import explained
+from issuer_host.launcher.clearing_progress import Judged
+from issuer_host.launcher.program_run import run_program
+from issuer_host.launcher.sources import PROOF_PARTS, crates_below, files_of, sources_of, sum_or_word
+from issuer_host.launcher.toolchain import kit_of, toolchain
+
+# The files' times and sizes at the last comparison of their sums with the record's.
+STAMPS = os.path.join(BUILD, "issuer.stamps")
+NO_PROGRAM = "no proved program is built"
+NOT_THE_PROVED = "the program in .build isn't the one that was proved"
+
+# What tells whether a file was touched; None if it doesn't exist.
+Stamp = Optional[list[int]]
+
+
+def sum_of_proof(sources: dict[str, str], kit: str) -> str:
+    """Returns the one sum that stands for these sources and the toolchain's identity."""
+    return hashlib.sha256(json.dumps([sorted(sources.items()), kit]).encode()).hexdigest()
+
+
+def stamp_of(path: str) -> Stamp:
+    try:
+        found = os.stat(path)
+    except OSError:
+        return None
+    return [found.st_size, found.st_mtime_ns, found.st_ctime_ns, found.st_ino]
+
+
+def stamps() -> dict[str, Stamp]:
+    """Returns what tells whether a source, the program or the toolchain was touched. It reads none but crates.txt."""
+    paths = [f"{HOME}/crates.txt", f"{HOME}/HANDLES", PROGRAM, RECORD]
+    for crate in crates_below(HOME):
+        paths += files_of(HOME, crate, PROOF_PARTS)
+    rt = toolchain()
+    if rt:
+        paths.append(os.path.realpath(rt))
+    return {path: stamp_of(path) for path in paths}
+
+
+def write_json(path: str, value: dict[str, Any]) -> None:
+    """Writes a file whole, or leaves it as it was."""
+    new = f"{path}.{os.getpid()}"
+    try:
+        with open(new, "w", encoding="utf-8") as text:
+            json.dump(value, text)
+        # (another user may run the program)
+        os.chmod(new, 0o644)
+        os.replace(new, path)
+    except OSError:
+        pass
+
+
+def why_unproved() -> Optional[str]:
+    """Returns why the built program isn't the proved program of these sources, or None if it is."""
+    record = read_record()
+    if not os.path.isfile(PROGRAM) or "sources" not in record:
+        return NO_PROGRAM
+    if not os.path.exists(f"{HOME}/crates.txt"):
+        # An installed copy has no sources that could have changed.
+        return None if sum_or_word(PROGRAM) == record.get("program") else NOT_THE_PROVED
+    now, seen = stamps(), read_record(STAMPS)
+    if seen.get("sum") == record.get("sum") and seen.get("files") == now:
+        return None
+    why = why_changed(record)
+    if why is None:
+        write_json(STAMPS, {"sum": record.get("sum"), "files": now})
+    return why
+
+
+def why_changed(record: dict[str, Any]) -> Optional[str]:
+    """Returns what isn't as the record of the proof says: the program, a source or the toolchain; None if all is."""
+    if sum_or_word(PROGRAM) != record.get("program"):
+        return NOT_THE_PROVED
+    proved, sources = record["sources"], sources_of(HOME)
+    changed = [name for name in {**proved, **sources} if proved.get(name) != sources.get(name)]
+    if changed:
+        more = f" and {len(changed) - 1} more" if len(changed) > 1 else ""
+        return f"{changed[0]}{more} changed since the program was proved"
+    rt = toolchain()
+    kit = kit_of(rt) if rt else None
+    if kit and kit != record.get("kit"):
+        return f"the toolchain is {kit}, and the program was proved with {record.get('kit')}"
+    return None
+
+
+def run_proved(words: Sequence[str]) -> int:
+    """Runs the proved program, and says beside its journals that a run may append."""
+    mark = lock_mark(value_of(JOURNAL, words), creates=False) if words[0] in OVER_JOURNALS else None
+    if mark is not None:
+        mark.may_append()
+    return run_watched(words)
+
+
+def run_watched(words: Sequence[str]) -> int:
+    """Runs the proved program. On a terminal it tells how far `clear` has come."""
+    if words[0] != "clear" or not sys.stderr or not sys.stderr.isatty():
+        return explained(words, *run_program([PROGRAM, *words]))
+    judged = Judged(value_of(CLEARING, words))
+    ended = run_program([PROGRAM, *words], judged)
+    judged.ended()
+    return explained(words, *ended)

@@ -1,0 +1,82 @@
+"""Orders at the socket of a bridge, as a command gives them. Like `texts` it imports next to nothing."""
+# (what `socket` stands over: half of the command's start would be the import of that one)
+import _socket
+
+from issuer_host.facts.refusal import Refusal, tell
+from issuer_host.orders.texts import BEFORE, DONE, HOST, NOT_DONE, ORDER
+
+# A host that has to load its journals first takes longer than this only if it hangs, and then it is killed.
+SECONDS = 300.0
+PIECE = 4096
+
+
+class Connection:
+    """A connection to a bridge's socket."""
+
+    def __init__(self, path: str) -> None:
+        self.to = _socket.socket(_socket.AF_UNIX, _socket.SOCK_STREAM | _socket.SOCK_CLOEXEC)
+        self.to.settimeout(SECONDS)
+        self.to.connect(path)
+        self.unread = b""
+
+    def ask(self, line: str) -> str:
+        """Sends a line, and returns the reply; nothing if there is none."""
+        try:
+            self.to.sendall(line.encode() + b"\n")
+            while b"\n" not in self.unread:
+                piece = self.to.recv(PIECE)
+                if not piece:
+                    return ""
+                self.unread += piece
+        except OSError:
+            return ""
+        reply, _, self.unread = self.unread.partition(b"\n")
+        return reply.decode("latin-1")
+
+
+def connected(path: str) -> "Connection | None":
+    """Returns a connection, or None if no bridge listens there."""
+    try:
+        return Connection(path)
+    except OSError:
+        return None
+
+
+def bridges_of(paths: list[str]) -> list[Connection]:
+    """Returns the bridges that listen, the one that serves first."""
+    found = [bridge for bridge in map(connected, paths) if bridge is not None]
+    if not found:
+        raise Refusal(
+            f"no bridge takes orders at {', '.join(paths)}: see that its unit runs, and that you are root or its user."
+            " Over journals that no host serves give --config and --journal"
+        )
+    return sorted(found, key=lambda bridge: bridge.ask(HOST) != f"{HOST} 1")
+
+
+def order(paths: list[str], number: str, lines: list[str]) -> None:
+    """Orders lines one after another, and prints their answers."""
+    before = []
+    bridges = bridges_of(paths)
+    for at, line in enumerate(lines, 1):
+        reply = reply_of(bridges, f"{number}/{at}", line)
+        word, _, said = reply.partition(" ")
+        if word not in (DONE, BEFORE):
+            again = f"; give the same order with --number {number}: no line is put twice"
+            why = reply if reply.startswith(f"{NOT_DONE} done") else f"{reply or 'no reply came'}{again}"
+            raise Refusal(f"line {at}: {why}")
+        print(said, flush=True)
+        if word == BEFORE:
+            before.append(str(at))
+    if before:
+        some = f"line {before[0]} was" if len(before) == 1 else f"lines {', '.join(before)} were"
+        tell("order", f"{some} done before, by the same number")
+
+
+def reply_of(bridges: list[Connection], number: str, line: str) -> str:
+    """Returns what became of a line: by the first bridge, or by the next one if that has no journals."""
+    reply = ""
+    for bridge in bridges:
+        reply = bridge.ask(f"{ORDER} {number} {line}")
+        if reply and not reply.startswith(f"{NOT_DONE} known"):
+            break
+    return reply

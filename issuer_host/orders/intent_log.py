@@ -1,0 +1,192 @@
+"""The file beside the journals that says which work on cards was begun, and what became of the last orders.
+
+`JOURNAL.work` has a JSON object a line. Before a line is put whose record must not be made twice, or has to be undone,
+what is needed to settle it is appended and synced. What became of it is appended after. If that never came, the
+journals say it: they have one more record of the card then, or they don't.
+
+Who has the journals' lock may write it: a bridge whose host runs, or an order over journals that no host serves.
+"""
+import contextlib
+import errno
+import hashlib
+import json
+import os
+from collections.abc import Callable
+from typing import Any, NamedTuple, Optional
+
+from issuer_host.facts.refusal import tell
+from issuer_host.facts.request_lines import SET_STATUS
+from issuer_host.files.card_records import Card, CardRecords, answer_of
+from issuer_host.files.folders import as_owner, folder_of, sync_folder
+
+ENDING = ".work"
+# So many ended orders are known at least. With so many lines the file is written anew.
+KNOWN = 2_000
+MOST_LINES = 20_000
+# An account's decline: its form, beside those of the lines of orders.
+DECLINE = "decline"
+
+
+class Begun(NamedTuple):
+    """Work that was begun on a card."""
+
+    number: str
+    # The form of an order's line, or DECLINE.
+    form: str
+    pan: str
+    psn: str
+    # How many records of its form the card had before: of statuses, if it is a decline.
+    total: int
+    # The sum of an order's line, or the status by which a decline is decided.
+    value: str
+    # The status that a card of a decline had before.
+    before: str = ""
+
+    @property
+    def card(self) -> Card:
+        return self.pan, self.psn
+
+
+def sum_of(form: str, card: Card, value: str) -> str:
+    """Returns what tells an order's line from others."""
+    return hashlib.sha256(" ".join((form, *card, value.lower())).encode("ascii")).hexdigest()
+
+
+class WorkFile:
+    """The file, and what it says."""
+
+    def __init__(self, journal: str) -> None:
+        self.journal = journal
+        self.path = journal + ENDING
+        self.open: dict[str, Begun] = {}
+        # By number: the sum of an order's line, and its answer.
+        self.ended: dict[str, tuple[str, str]] = {}
+        self.file = -1
+        # What was to be appended and couldn't be, and whether a part of it may have been.
+        self.unwritten: list[dict[str, Any]] = []
+        self.is_torn = False
+        self.lines = 0
+
+    def load(self) -> None:
+        """Reads the file anew: another bridge may have written it."""
+        self.close()
+        self.open.clear()
+        self.ended.clear()
+        self.unwritten.clear()
+        self.is_torn = False
+        self.lines = 0
+        with as_owner(folder_of(self.path)):
+            flags = os.O_RDWR | os.O_CREAT | os.O_APPEND | os.O_NOFOLLOW | os.O_CLOEXEC
+            self.file = os.open(self.path, flags, 0o600)
+        with open(os.dup(self.file), "rb") as text:
+            *whole, torn = text.read().split(b"\n")
+        if torn:
+            os.ftruncate(self.file, os.fstat(self.file).st_size - len(torn))
+        if not whole:
+            sync_folder(folder_of(self.path))
+        for line in whole:
+            with contextlib.suppress(ValueError):
+                # (a line that couldn't be written whole is none)
+                self.take(json.loads(line))
+
+    def take(self, said: dict[str, Any]) -> None:
+        self.lines += 1
+        if "answer" not in said:
+            begun = Begun(**said)
+            self.open[begun.number] = begun
+            return
+        ended = self.open.pop(said["number"], None)
+        if ended and ended.form != DECLINE and said["answer"]:
+            self.ended[ended.number] = ended.value, said["answer"]
+
+    def rewrite(self) -> None:
+        """Leaves out what nobody asks for any more."""
+        self.ended = dict(list(self.ended.items())[-KNOWN:])
+        said = [begun._asdict() for begun in self.open.values()]
+        for number, (value, answer) in self.ended.items():
+            said += [Begun(number, "", "", "", 0, value)._asdict(), {"number": number, "answer": answer}]
+        new = self.path + ".new"
+        with as_owner(folder_of(self.path)):
+            made = os.open(new, os.O_RDWR | os.O_CREAT | os.O_TRUNC | os.O_APPEND | os.O_NOFOLLOW | os.O_CLOEXEC, 0o600)
+            os.write(made, text_of(said))
+            os.fsync(made)
+            os.replace(new, self.path)
+            sync_folder(folder_of(self.path))
+        os.close(self.file)
+        self.file = made
+        self.lines = len(said)
+
+    def begin(self, begun: Begun) -> None:
+        """Notes durably that work begins. An OSError says that it may not."""
+        if self.lines > MOST_LINES:
+            self.rewrite()
+        self.append([begun._asdict()])
+        os.fdatasync(self.file)
+        self.open[begun.number] = begun
+
+    def end(self, number: str, answer: str = "") -> None:
+        """Notes what became of work, an empty text if nothing did. A fault of the disk leaves it to the journals.
+
+        Earlier work on its card that was left open, as the disk took no record, came to nothing: the host wrote over
+        it.
+        """
+        ended = self.open[number]
+        left = [other for other, begun in self.open.items() if begun.card == ended.card and answer]
+        said = [{"number": other, "answer": ""} for other in left if other != number]
+        said.append({"number": number, "answer": answer})
+        for one in said:
+            self.take(one)
+            self.lines -= 1
+        try:
+            self.append(said)
+        except OSError as fault:
+            tell("bridge", f"{self.path} can't be written: {fault.strerror}; the journals say what it would")
+
+    def when_noted(self, action: Callable[[], object]) -> None:
+        """Does something once what was noted is known wherever it may be needed: here it is."""
+        action()
+
+    def append(self, said: list[dict[str, Any]]) -> None:
+        """Appends lines whole, behind those that couldn't be appended before."""
+        self.unwritten += said
+        text = b"\n" * self.is_torn + text_of(self.unwritten)
+        try:
+            if os.write(self.file, text) != len(text):
+                raise OSError(errno.ENOSPC, os.strerror(errno.ENOSPC))
+        except OSError:
+            self.is_torn = True
+            if "answer" not in said[-1]:
+                del self.unwritten[-len(said) :]
+            raise
+        self.is_torn = False
+        self.lines += len(self.unwritten)
+        self.unwritten.clear()
+
+    def close(self) -> None:
+        if self.file >= 0:
+            os.close(self.file)
+            self.file = -1
+
+    def settle_orders(self, records: CardRecords) -> None:
+        """Notes what became of orders that were interrupted, as the journals say."""
+        for begun in list(self.open.values()):
+            if begun.form == DECLINE:
+                continue
+            last = records.of(begun.form, begun.card)
+            is_recorded = last.total > begun.total and sum_of(begun.form, begun.card, last.value) == begun.value
+            self.end(begun.number, answer_of(begun.form, last) if is_recorded else "")
+
+    def declines(self) -> list[Begun]:
+        return [begun for begun in self.open.values() if begun.form == DECLINE]
+
+
+def text_of(said: list[dict[str, Any]]) -> bytes:
+    return b"".join(json.dumps(one, separators=(",", ":")).encode() + b"\n" for one in said)
+
+
+def restoring_line(begun: Begun, records: CardRecords) -> Optional[str]:
+    """Returns the line that gives a card the status back that it had before an interrupted decline, if it needs one."""
+    last = records.of(SET_STATUS, begun.card)
+    if last.total == begun.total + 1 and last.value == begun.value:
+        return f"{SET_STATUS} {begun.pan} {begun.psn} {begun.before}"
+    return None

@@ -1,0 +1,136 @@
+"""The socket on which a bridge takes orders: of its own user, and of root.
+
+A peer sends lines, and each gets a line back:
+
+    host                    `host 1` if the bridge has a host that serves its partition, and `host 0` otherwise
+    order NUMBER LINE       `done ANSWER`; `before ANSWER` if it was done before; `not done: WHY`; `not known: WHY` if
+                            the same has to be sent again to learn what became of it
+"""
+import contextlib
+import os
+import socket
+import stat
+import struct
+from collections.abc import Callable
+from typing import Optional
+
+from issuer_host.facts.refusal import tell
+from issuer_host.host.event_loop import Loop
+from issuer_host.orders.order import Order, order_of
+from issuer_host.orders.texts import HOST, NOT_DONE, ORDER
+
+# So many peers are connected at a time; one more waits.
+CONNECTIONS = 16
+MAX_LINE = 1024
+# What the kernel says of a peer: its process, user and group.
+CREDENTIALS = struct.Struct("3i")
+
+OnOrder = Callable[[Order, int, Callable[[str], object]], object]
+
+
+class Peer:
+    """A connection."""
+
+    def __init__(self, connection: socket.socket) -> None:
+        connection.setblocking(False)
+        self.connection = connection
+        said = connection.getsockopt(socket.SOL_SOCKET, socket.SO_PEERCRED, CREDENTIALS.size)
+        self.uid: int = CREDENTIALS.unpack(said)[1]
+        self.text = b""
+
+    def reply(self, text: str) -> None:
+        """Sends a line, unless the peer is gone or doesn't read."""
+        with contextlib.suppress(OSError):
+            self.connection.send(text.encode() + b"\n")
+
+
+class OrderSocket:
+    def __init__(self, loop: Loop, path: str, has_host: Callable[[], bool], on_order: OnOrder) -> None:
+        self.loop = loop
+        self.path = path
+        self.has_host = has_host
+        self.on_order = on_order
+        self.peers: dict[int, Peer] = {}
+        self.listening: Optional[socket.socket] = None
+
+    def open(self) -> None:
+        """Listens. A bridge that can't goes on without orders, and says so."""
+        try:
+            self.listening = listening_at(self.path)
+        except OSError as fault:
+            tell("bridge", f"no orders are taken: {self.path}: {fault.strerror}")
+            return
+        self.loop.add_handler(self.listening.fileno(), self.accept, self.loop.READ)
+
+    def accept(self, _: int, __: int) -> None:
+        assert self.listening is not None
+        try:
+            peer = Peer(self.listening.accept()[0])
+        except OSError:
+            return
+        if peer.uid not in (0, os.geteuid()) or len(self.peers) >= CONNECTIONS:
+            peer.reply(f"{NOT_DONE} done: this user may not order, or too many do")
+            peer.connection.close()
+            return
+        self.peers[peer.connection.fileno()] = peer
+        self.loop.add_handler(peer.connection.fileno(), self.read, self.loop.READ)
+
+    def read(self, number: int, _: int) -> None:
+        peer = self.peers[number]
+        try:
+            piece = peer.connection.recv(MAX_LINE)
+        except BlockingIOError:
+            return
+        except OSError:
+            piece = b""
+        *lines, peer.text = (peer.text + piece).split(b"\n")
+        if not piece or len(peer.text) > MAX_LINE:
+            self.close(number)
+        for line in lines:
+            self.take(peer, line.decode("latin-1"))
+
+    def take(self, peer: Peer, line: str) -> None:
+        """Takes a line of a peer."""
+        word, _, rest = line.partition(" ")
+        if word == HOST and not rest:
+            peer.reply(f"{HOST} {int(self.has_host())}")
+            return
+        number, _, text = rest.partition(" ")
+        order = order_of(number, text) if word == ORDER else None
+        if order is None:
+            peer.reply(f"{NOT_DONE} done: the line is no order of the form Q or S with a number")
+            return
+        self.on_order(order, peer.uid, peer.reply)
+
+    def close(self, number: int) -> None:
+        peer = self.peers.pop(number)
+        self.loop.remove_handler(number)
+        peer.connection.close()
+
+    def end(self) -> None:
+        """Takes no more orders."""
+        if self.listening is not None:
+            self.loop.remove_handler(self.listening.fileno())
+            self.listening.close()
+            self.listening = None
+            with contextlib.suppress(OSError):
+                os.remove(self.path)
+
+
+def listening_at(path: str) -> socket.socket:
+    """Returns a socket at a path, which this user alone may connect to. What a bridge before left there is removed."""
+    with contextlib.suppress(FileNotFoundError):
+        if stat.S_ISSOCK(os.lstat(path).st_mode):
+            os.remove(path)
+    found = socket.socket(socket.AF_UNIX, socket.SOCK_STREAM | socket.SOCK_CLOEXEC)
+    before = os.umask(0o177)
+    try:
+        found.bind(path)
+        found.listen(CONNECTIONS)
+        found.setblocking(False)
+    except OSError:
+        found.close()
+        raise
+    finally:
+        os.umask(before)
+    return found

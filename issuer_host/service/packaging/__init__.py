@@ -1,1 +1,0 @@
-"""Makes the Debian package. No installed copy has it."""

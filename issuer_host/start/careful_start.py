@@ -1,0 +1,219 @@
+"""Starts the program over its journals, or refuses if a start would forget what was decided.
+
+usage: issuer-run [--begin] [--accept-journals] [--node] [--program PATH] serve|show|clear|export|standby
+                  --config FILE --journal NAME ..
+
+The words from the command on are the program's own; see issuer(1). Before it hands over to the program it checks:
+
+- the program is the one whose proof is recorded beside it, or another that --program names
+- standard input, output and error output are open
+- the configuration, with its keys, can be opened by this user and root alone
+- a journal exists for each shard of the configuration, and for no shard past them. If none exists, --begin creates
+  them, empty, once: the program copies the records of old journals, of version 1, into them. If old journals exist,
+  all do
+- each journal, old or not, is a regular file of this user, with one name, that no other user can open; so is a pipe
+  that --requests or --feed names
+- no journal is empty where another has records
+- each journal is what the seals beside it say (`JOURNAL.seals`), and hasn't grown since its last run ended (`NAME.run`)
+- no bytes come after a journal's last newline that no crash leaves. How many a crash left is told
+- serve and standby don't append to journals that are replicated (`NAME.position`): only a node does, with --node
+
+--accept-journals, once, takes the journals as they are where one of the three before the last is refused: what they
+lack is forgotten, and seals are made anew.
+
+Started by root over journals in another user's folder, it goes on as that user, who need not be able to read the
+configuration's file. It allows no core of itself and of the program.
+
+Each start, and each that is refused, is a line of the log beside the journals (`JOURNAL.audit`).
+
+Otherwise it ends with status 78, and the error output has a sentence on what to do; with 70 there is no proved program;
+with 75 something failed that passes, as a disk that can't be read for a moment.
+"""
+import json
+import os
+import sys
+import time
+from collections.abc import Sequence
+from typing import NamedTuple, Optional
+
+from issuer_host.facts.commands import COMMANDS, CONFIG, JOURNAL, OVER_JOURNALS, Option, value_of
+from issuer_host.facts.faults import lasts, refuse_if_lasting
+from issuer_host.facts.limits import MAX_SHARDS
+from issuer_host.facts.memory import keep_from_others
+from issuer_host.facts.paths import PROGRAM, RECORD
+from issuer_host.facts.proof import is_proved
+from issuer_host.facts.refusal import Refusal, tell
+from issuer_host.facts.statuses import Status
+from issuer_host.files.audit import Audit
+from issuer_host.files.folders import folder_of
+from issuer_host.files.private_files import check_input, check_keys
+from issuer_host.files.seals import ACCEPTS
+from issuer_host.start.history_checks import APPENDING, check_history
+from issuer_host.start.journal_checks import check_journals, refuse_replicated
+from issuer_host.start.users import become_owner
+
+NAME = "issuer-run"
+# An upgrade puts the program and the record of its proof in place one after the other.
+PROOF_LOOKS = 5
+PROOF_SECONDS = 1.0
+# The word of a node's starts.
+NODE = "--node"
+STREAMS = ("standard input", "standard output", "the error output")
+
+
+class Start(NamedTuple):
+    """The words of the command: those before the program's own, and those."""
+
+    begins: bool
+    # Whether journals are taken that aren't as they were left.
+    accepts: bool
+    # Another program than the proved one.
+    program: Optional[str]
+    # Whether it is a node's, which alone appends to journals that are replicated.
+    is_node: bool
+    words: list[str]
+
+
+def start_of(words: Sequence[str]) -> Start:
+    given = set()
+    program = None
+    words = list(words)
+    while words[:1] in (["--begin"], [ACCEPTS], [NODE], ["--program"]):
+        if words[0] == "--program":
+            if len(words) < 2:
+                raise Refusal("--program and its value are missing")
+            program = words[1]
+            words = words[2:]
+        else:
+            given.add(words[0])
+            words = words[1:]
+    return Start("--begin" in given, ACCEPTS in given, program, NODE in given, words)
+
+
+def needed(option: Option, words: Sequence[str]) -> str:
+    """Returns the value of an option."""
+    value = value_of(option, words)
+    if not value:
+        raise Refusal(f"{option.name} and its value are missing")
+    return value
+
+
+def shards_of(path: str) -> int:
+    """Returns the number of shards that a configuration names. The program judges the remainder of it."""
+    try:
+        with open(path, encoding="utf-8") as text:
+            shards = json.load(text)["shards"]
+    except OSError as fault:
+        refuse_if_lasting(fault, f"the configuration {path} can't be read: {fault.strerror}")
+        raise
+    except (ValueError, KeyError, TypeError, RecursionError) as fault:
+        raise Refusal(f"the configuration {path} names no shards; write it again by deploy/partition") from fault
+    if type(shards) is int and 1 <= shards <= MAX_SHARDS:
+        return shards
+    raise Refusal(f"the configuration {path} has {shards!r} shards, and 1 to {MAX_SHARDS} are possible")
+
+
+def check_descriptors() -> None:
+    for number, name in enumerate(STREAMS):
+        try:
+            os.fstat(number)
+        except OSError as fault:
+            what = f"{name} is closed, so that a file would take its place; open it, on /dev/null at least"
+            raise Refusal(what) from fault
+
+
+def owned(words: list[str]) -> list[str]:
+    """Goes on as the user of the journals' folder. Returns the words to go on with."""
+    config = needed(CONFIG, words)
+    folder = os.path.dirname(needed(JOURNAL, words)) or "."
+    at = words.index(CONFIG.name) + 1
+    return [*words[:at], become_owner(config, folder), *words[at + 1 :]]
+
+
+def owners_of(words: Sequence[str]) -> set[int]:
+    """Returns the users who may own the configuration: root, this one, and that of the journals."""
+    found = {0, os.geteuid()}
+    try:
+        found.add(os.stat(folder_of(needed(JOURNAL, words))).st_uid)
+    except OSError:
+        # (refused when the journals are looked for)
+        pass
+    return found
+
+
+def program_of(start: Start) -> Optional[str]:
+    """Returns the path of the program that is started, or None if there is no proved one."""
+    if start.program is not None:
+        return start.program
+    if is_proved_soon():
+        return PROGRAM
+    what = f"{PROGRAM} isn't the program of a proof that is recorded beside it"
+    tell(NAME, f"{what}. Run ./issuer prove, or install the package")
+    return None
+
+
+def is_proved_soon() -> bool:
+    """Whether the program is the one that the record of its proof names, now or after an upgrade's last step."""
+    for look in range(PROOF_LOOKS):
+        if look:
+            time.sleep(PROOF_SECONDS)
+        if is_proved():
+            return True
+        if not os.path.exists(PROGRAM) and not os.path.exists(RECORD):
+            return False
+    return False
+
+
+def hand_over(start: Start) -> int:
+    """Checks all that there is to check, and becomes the program. It returns only if it doesn't."""
+    user = os.getuid()
+    os.umask(0o077)
+    keep_from_others()
+    check_descriptors()
+    check_keys(needed(CONFIG, start.words), owners_of(start.words))
+    words = owned(start.words)
+    shards = shards_of(needed(CONFIG, words))
+    check_journals(needed(JOURNAL, words), shards, start.begins, start.accepts)
+    if words[0] in APPENDING and not start.is_node:
+        refuse_replicated(needed(JOURNAL, words))
+    lines = COMMANDS[words[0]].lines
+    if lines and lines.may_be_piped:
+        check_input(needed(lines.option, words))
+    program = program_of(start)
+    if program is None:
+        return Status.NO_PROGRAM
+    check_history(words[0], needed(JOURNAL, words), shards, start.accepts)
+    Audit(needed(JOURNAL, words), NAME).started(words[0], user)
+    os.execv(program, ["issuer", *words])
+
+
+def run(words: Sequence[str]) -> int:
+    if list(words) in (["--help"], ["-h"]):
+        print(__doc__, end="")
+        return Status.OK
+    start = start_of(words)
+    if not start.words or start.words[0] not in OVER_JOURNALS:
+        print(__doc__, end="", file=sys.stderr)
+        return Status.WORDS
+    return hand_over(start)
+
+
+def note_refusal(words: Sequence[str], user: int, why: str) -> None:
+    """Has the log say of a start that was refused."""
+    command = next((word for word in words if word in OVER_JOURNALS), "")
+    journal = value_of(JOURNAL, words)
+    if command and os.path.isdir(os.path.dirname(journal) or "."):
+        Audit(journal, NAME).started(command, user, why)
+
+
+def main(words: Sequence[str]) -> int:
+    user = os.getuid()
+    try:
+        return run(words)
+    except Refusal as refusal:
+        tell(NAME, str(refusal))
+        note_refusal(words, user, str(refusal))
+    except OSError as fault:
+        tell(NAME, f"{fault.filename or 'the program'}: {fault.strerror}")
+        return Status.REFUSED if lasts(fault) else Status.PASSES
+    return Status.REFUSED
