@@ -5,6 +5,7 @@ import os
 import re
 import signal
 import socket
+import ssl
 import subprocess
 import sys
 import threading
@@ -227,8 +228,15 @@ def ask(peer: socket.socket, codec: Codec, message: Message) -> Optional[Message
 class GoodPeer:
     """A peer that asks one message after another while others do their worst; every one has to get its right answer."""
 
-    def __init__(self, gateway: Gateway, issuer: Issuer, dialect: str = DIALECTS[0]) -> None:
-        self.gateway, self.dialect, self.taps = gateway, dialect, Taps(issuer)
+    def __init__(
+        self,
+        gateway: Gateway,
+        issuer: Issuer,
+        dialect: str = DIALECTS[0],
+        context: Optional[ssl.SSLContext] = None,
+    ) -> None:
+        """It connects by TLS if it gets a context."""
+        self.gateway, self.dialect, self.taps, self.context = gateway, dialect, Taps(issuer), context
         self.asked = self.right = 0
         self.slowest = 0.0
         self.wrong: list[str] = []
@@ -245,7 +253,7 @@ class GoodPeer:
 
     async def work(self) -> None:
         codec = CODECS[self.dialect]
-        link = await Link.open(self.gateway.place(self.dialect))
+        link = await Link.open(self.gateway.place(self.dialect), self.context)
         while not self.is_ending:
             card, message = self.taps.next(self.dialect)
             began = time.monotonic()

@@ -35,8 +35,8 @@ class Owner(Protocol):
     is_stopping: bool
     limited: Limited
 
-    def begun(self, connection: "Connection") -> bool:
-        """Whether there is room for this connection."""
+    def begun(self, connection: "Connection") -> str:
+        """Takes a connection; or says why not."""
 
     def ended(self, connection: "Connection", why: str) -> None:
         """Forgets a connection."""
@@ -69,8 +69,9 @@ class Connection(asyncio.BufferedProtocol):
     def connection_made(self, transport: asyncio.BaseTransport) -> None:
         self.transport = cast(asyncio.Transport, transport)
         self.transport.set_write_buffer_limits(high=WRITE_BYTES)
-        if not self.owner.begun(self):
-            self.abort("too many connections")
+        why_not = self.owner.begun(self)
+        if why_not:
+            self.abort(why_not)
 
     def get_buffer(self, sizehint: int) -> memoryview:
         return self.buffer.room()

@@ -10,6 +10,7 @@ from typing import Callable, Union
 
 from issuer_host.facts.answers import DECISIONS, Kind, REFUSED
 from issuer_host.facts.journals import journals_of
+from issuer_host.gateway.admission import REASONS
 from issuer_host.gateway.mapping import REFUSALS
 
 SECONDS = (0.001, 0.002, 0.005, 0.01, 0.02, 0.05, 0.1, 0.2, 0.5, 1, 2, 5, 10, 30)
@@ -17,7 +18,7 @@ REQUEST_SECONDS, REQUEST_BYTES = 5.0, 4096
 HEAD = "HTTP/1.1 {status}\r\nContent-Type: text/plain; version=0.0.4; charset=utf-8\r\nContent-Length: {length}\r\n"
 END = "Connection: close\r\n\r\n"
 
-# The gateway's own, all counters but three.
+# The gateway's own, all counters but those of `GAUGES`.
 OWN = {
     "messages": "Messages by what was done with them",
     "responses": "Responses by the code in element 39",
@@ -27,11 +28,14 @@ OWN = {
     "retries": "Lines that were put again after refused 12 or 15",
     "connections_begun": "Connections that were taken",
     "connections_ended": "Ends of connections by their cause",
+    "refused": "Connections that were refused before their first message, by why",
     "connections": "Connections that are open",
+    "handshakes": "TLS handshakes under way",
+    "silent": "Accepted sockets that have sent nothing yet",
     "in_flight": "Messages that aren't answered yet",
     "hosts_up": "Partitions whose host can be asked",
 }
-GAUGES = ("connections", "in_flight", "hosts_up")
+GAUGES = ("connections", "handshakes", "silent", "in_flight", "hosts_up")
 # Of hosts that the gateway starts: by partition, as a bridge has them.
 OF_HOSTS = {
     "answers": ("counter", "Answers by kind; a refusal has its number"),
@@ -53,9 +57,9 @@ class Figures:
 
     def __init__(self, partitions: int, has_hosts: bool = True) -> None:
         self.late = self.expired = self.retries = self.unreadable = self.connections_begun = 0
-        self.connections = self.in_flight = 0
+        self.connections = self.in_flight = self.handshakes = self.silent = 0
         self.labelled: dict[str, dict[Labels, Number]] = {
-            name: {} for name in ("messages", "responses", "connections_ended", *OF_HOSTS)
+            name: {} for name in ("messages", "responses", "connections_ended", "refused", *OF_HOSTS)
         }
         self.has_hosts, self.host_up = has_hosts, [0] * partitions
         # Sets the gauges of hosts.
@@ -63,6 +67,8 @@ class Figures:
         self.buckets = [0] * (len(SECONDS) + 1)
         self.seconds = 0.0
         # (a rate sees no first event of a counter that begins with it)
+        for why in REASONS:
+            self.labelled["refused"][(("why", why),)] = 0
         for partition in range(partitions):
             self.labelled["host_starts"][of_partition(partition)] = 0
             for kind in [*map(Kind, DECISIONS), *(Kind(REFUSED, str(int(it))) for it in REFUSALS)]:

@@ -4,29 +4,29 @@ import asyncio
 import functools
 import resource
 import signal
-import socket
 import ssl
 from collections.abc import Callable
 from dataclasses import dataclass
 from typing import Any, Optional, Protocol
 
 from issuer_host.facts.statuses import Status
+from issuer_host.gateway import admission
 from issuer_host.gateway import figures as figures_of
+from issuer_host.gateway.admission import Admission, PortLimits
 from issuer_host.gateway.connection import Connection
 from issuer_host.gateway.figures import Figures
 from issuer_host.gateway.log import Limited, NAME, tell
 from issuer_host.gateway.message import Codec
+from issuer_host.gateway.port import Port
 from issuer_host.gateway.requests import RequestLine
 from issuer_host.gateway.traffic import Host, Traffic
 from issuer_host.telling import service_manager
 
 TICK_SECONDS, EXPIRE_SECONDS = 1.0, 0.02
-HANDSHAKE_SECONDS = 10.0
-BACKLOG = 1024
-# What the system buffers of a connection, each way.
-SOCKET_BYTES = 1 << 16
-# Files beside the connections: two pipes a host, listeners, the loop.
-OTHER_FILES = 128
+# Of refused connections so many lines a second are told: a flood has no more than that of the log.
+PORT_LINES_A_SECOND = 2
+# Files beside the connections: two pipes a host, listeners, the loop, and sockets that have sent nothing.
+OTHER_FILES = 128 + admission.SILENT
 # How long hosts may take to end once they have no more lines.
 END_SECONDS = 5.0
 
@@ -39,9 +39,18 @@ class Bounds:
     of_connection: int = 256
     in_flight: int = 1024
     connections: int = 2000
+    of_address: int = 512
+    handshakes: int = 64
     seconds: float = 5.0
     frame_seconds: float = 10.0
     idle_seconds: float = 900.0
+    # By TLS: until the first byte, and for a handshake.
+    silent_seconds: float = 3.0
+    handshake_seconds: float = 5.0
+
+    def of_port(self, by_tls: bool) -> PortLimits:
+        silent = self.silent_seconds if by_tls else self.idle_seconds
+        return PortLimits(self.connections, self.of_address, self.handshakes, silent, self.handshake_seconds)
 
 
 @dataclass(frozen=True)
@@ -77,14 +86,23 @@ class Gateway:
     """All of it."""
 
     def __init__(
-        self, loop: asyncio.AbstractEventLoop, partitions: int, bounds: Bounds, is_ordered: bool, has_hosts: bool
+        self,
+        loop: asyncio.AbstractEventLoop,
+        partitions: int,
+        bounds: Bounds,
+        context: Optional[ssl.SSLContext],
+        is_ordered: bool,
+        has_hosts: bool,
     ) -> None:
         """`is_ordered`: whether the hosts keep the order of a card's lines; `has_hosts`: whether they are its own."""
         self.loop, self.limits = loop, bounds
+        raise_file_limit(bounds)
         self.figures, self.limited = Figures(partitions, has_hosts), Limited()
         self.figures.measure = self.measure
         self.traffic = Traffic(loop, bounds.seconds, is_ordered, self.figures)
         self.hosts: list[Partition] = []
+        limits, by_tls = bounds.of_port(context is not None), context is not None
+        self.port = Port(loop, Admission(limits, by_tls), context, self.figures, Limited(PORT_LINES_A_SECOND))
         self.servers: list[asyncio.AbstractServer] = []
         self.connections: set[Connection] = set()
         # Connections that have more messages, in the order in which they came to wait.
@@ -94,15 +112,17 @@ class Gateway:
 
     # What connections call
 
-    def begun(self, connection: Connection) -> bool:
-        if len(self.connections) >= self.limits.connections or self.is_stopping:
-            return False
+    def begun(self, connection: Connection) -> str:
+        self.port.opened(connection)
+        if self.is_stopping:
+            return "the gateway ends"
         self.connections.add(connection)
         self.figures.connections_begun += 1
         self.figures.connections = len(self.connections)
-        return True
+        return ""
 
     def ended(self, connection: Connection, why: str) -> None:
+        self.port.ended(connection)
         self.connections.discard(connection)
         self.waiting.pop(connection, None)
         self.figures.connections = len(self.connections)
@@ -133,17 +153,16 @@ class Gateway:
 
     # From the start to the end
 
-    async def run(self, listeners: list[Listener], context: Optional[ssl.SSLContext], figures_port: int) -> int:
+    async def run(self, listeners: list[Listener], figures_port: int) -> int:
         for number in (signal.SIGTERM, signal.SIGINT):
             self.loop.add_signal_handler(number, self.stop)
-        raise_file_limit(self.limits)
         await self.start_hosts()
         refusals = [host.refusal for host in self.hosts]
         if None not in refusals:
             tell("no host can be started")
             await self.end_hosts()
             return Status.USAGE if refusals[0] == Status.WORDS else refusals[0] or Status.REFUSED
-        await self.listen(listeners, context, figures_port)
+        await self.listen(listeners, figures_port)
         service_manager.notify(NAME, "READY=1")
         self.tick()
         self.expire()
@@ -164,21 +183,11 @@ class Gateway:
             tried = {it for it in tried if not it.done()}
         stopped.cancel()
 
-    async def listen(self, listeners: list[Listener], context: Optional[ssl.SSLContext], figures_port: int) -> None:
+    async def listen(self, listeners: list[Listener], figures_port: int) -> None:
         for it in listeners:
-            make = functools.partial(Connection, self, it.codec, self.loop)
-            seconds = HANDSHAKE_SECONDS if context else None
-            made = self.loop.create_server(
-                make, it.address, it.port, ssl=context, ssl_handshake_timeout=seconds, backlog=BACKLOG
-            )
-            server = await made
-            for taken in server.sockets:
-                # (what is taken from it has buffers of this size too)
-                taken.setsockopt(socket.SOL_SOCKET, socket.SO_SNDBUF, SOCKET_BYTES)
-                taken.setsockopt(socket.SOL_SOCKET, socket.SO_RCVBUF, SOCKET_BYTES)
-            self.servers.append(server)
-            port = server.sockets[0].getsockname()[1]
-            tell(f"{it.codec.dialect.name} on {it.address} port {port}{' by TLS' if context else ''}")
+            port = await self.port.listen(it.address, it.port, functools.partial(Connection, self, it.codec, self.loop))
+            by_tls = " by TLS" if self.port.context else ""
+            tell(f"{it.codec.dialect.name} on {it.address} port {port}{by_tls}")
         if figures_port:
             try:
                 self.servers.append(await figures_of.serve(self.figures, figures_port))
@@ -187,6 +196,7 @@ class Gateway:
 
     def measure(self) -> None:
         """Sets what is measured of hosts when somebody asks for figures."""
+        self.port.measure()
         now, counts = self.loop.time(), [0] * len(self.hosts)
         oldest = [0.0] * len(self.hosts)
         for question in self.traffic.open.values():
@@ -205,6 +215,7 @@ class Gateway:
         )
         for host in self.hosts:
             host.look()
+        self.port.expire()
         for connection in list(self.connections):
             connection.look(now)
 
@@ -221,6 +232,7 @@ class Gateway:
         """Answers what is in flight, within its time limit, and ends connections and hosts."""
         service_manager.notify(NAME, "STOPPING=1")
         tell(f"ends: {len(self.traffic.open)} messages are in flight")
+        self.port.close()
         for server in self.servers:
             server.close()
         for connection in list(self.connections):

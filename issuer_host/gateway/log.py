@@ -17,8 +17,8 @@ def tell(text: str) -> None:
 class Limited:
     """Tells of what peers can cause as often as they like, at most so many lines a second."""
 
-    def __init__(self, clock: Callable[[], float] = time.monotonic) -> None:
-        self.clock, self.began, self.told, self.left_out = clock, 0.0, 0, 0
+    def __init__(self, lines: int = LINES_A_SECOND, clock: Callable[[], float] = time.monotonic) -> None:
+        self.lines, self.clock, self.began, self.told, self.left_out = lines, clock, 0.0, 0, 0
 
     def tell(self, text: str) -> None:
         now = self.clock()
@@ -26,7 +26,7 @@ class Limited:
             if self.left_out:
                 tell(f"{self.left_out} more lines of this kind were left out")
             self.began, self.told, self.left_out = now, 0, 0
-        if self.told == LINES_A_SECOND:
+        if self.told == self.lines:
             self.left_out += 1
             return
         self.told += 1

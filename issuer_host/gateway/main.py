@@ -11,7 +11,9 @@ partition's number goes. By the second form the hosts are behind the broker that
 --tls-certificate, --tls-key, --tls-clients
                  files in PEM: peers have to show a certificate of one of the last one's authorities
 --seconds        the time limit of a message (5). After it 91 or 907 is answered
---in-flight      messages in flight (1024), --of-connection of one connection (256), --connections (2000),
+--in-flight      messages in flight (1024), --of-connection of one connection (256)
+--connections    in all (2000), --of-address of one address (512), --handshakes of TLS at a time (64)
+--silent-seconds by TLS until a connection's first byte (3), --handshake-seconds of a handshake (5)
 --frame          bytes of a message (4096), --frame-seconds for a torn frame, or for a peer that doesn't read (10),
 --idle-seconds   after which a silent connection is closed (900; 0: never)
 --callers        of each host (1), --window lines that a host has at a time (64)
@@ -57,9 +59,9 @@ async def run(words: Sequence[str]) -> int:
     context = options_of.tls_of(options)
     has_hosts = not options.broker_file
     is_ordered = has_hosts and options.callers == 1
-    gateway = Gateway(asyncio.get_running_loop(), options.partitions, bounds, is_ordered, has_hosts)
+    gateway = Gateway(asyncio.get_running_loop(), options.partitions, bounds, context, is_ordered, has_hosts)
     gateway.hosts = brokered(gateway, options) if options.broker_file else pipe_hosts(gateway, options)
-    return await gateway.run(listeners, context, options.figures)
+    return await gateway.run(listeners, options.figures)
 
 
 def brokered(gateway: Gateway, options: argparse.Namespace) -> list[Partition]:

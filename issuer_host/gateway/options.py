@@ -40,6 +40,10 @@ def parser_of(usage: str) -> argparse.ArgumentParser:
     parser.add_argument("--in-flight", type=int, default=bounds.in_flight)
     parser.add_argument("--of-connection", type=int, default=bounds.of_connection)
     parser.add_argument("--connections", type=int, default=bounds.connections)
+    parser.add_argument("--of-address", type=int, default=bounds.of_address)
+    parser.add_argument("--handshakes", type=int, default=bounds.handshakes)
+    parser.add_argument("--silent-seconds", type=float, default=bounds.silent_seconds)
+    parser.add_argument("--handshake-seconds", type=float, default=bounds.handshake_seconds)
     parser.add_argument("--frame", type=int, default=bounds.frame)
     parser.add_argument("--frame-seconds", type=float, default=bounds.frame_seconds)
     parser.add_argument("--idle-seconds", type=float, default=bounds.idle_seconds)
@@ -60,16 +64,28 @@ def bounds_of(options: argparse.Namespace) -> Bounds:
         of_connection=options.of_connection,
         in_flight=options.in_flight,
         connections=options.connections,
+        of_address=options.of_address,
+        handshakes=options.handshakes,
+        silent_seconds=options.silent_seconds,
+        handshake_seconds=options.handshake_seconds,
         seconds=options.seconds,
         frame_seconds=options.frame_seconds,
         idle_seconds=options.idle_seconds,
     )
     if not 64 <= found.frame <= GREATEST_FRAME:
         raise BadOptions(f"--frame is 64 to {GREATEST_FRAME}")
-    if min(found.of_connection, found.in_flight, found.connections, options.window, options.partitions) < 1:
-        raise BadOptions("--of-connection, --in-flight, --connections, --window and --partitions are 1 at least")
-    if min(found.seconds, found.frame_seconds) <= 0 or found.idle_seconds < 0:
-        raise BadOptions("--seconds and --frame-seconds are above 0, and --idle-seconds 0 at least")
+    counts = found.of_connection, found.in_flight, found.connections, found.of_address, found.handshakes
+    if min(*counts, options.window, options.partitions) < 1:
+        raise BadOptions(
+            "--of-connection, --in-flight, --connections, --of-address, --handshakes, --window and --partitions"
+            " are 1 at least"
+        )
+    times = found.seconds, found.frame_seconds, found.silent_seconds, found.handshake_seconds
+    if min(times) <= 0 or found.idle_seconds < 0:
+        raise BadOptions(
+            "--seconds, --frame-seconds, --silent-seconds and --handshake-seconds are above 0,"
+            " and --idle-seconds 0 at least"
+        )
     return found
 
 
