@@ -13,7 +13,11 @@ EDITIONS = ("1987", "1993")
 PAN, PROCESSING, AMOUNT, TRACK_2, PSN = 2, 3, 4, 35, 23
 APPROVAL, CODE, CURRENCY, CHIP = 38, 39, 49, 55
 DATE = {"1987": 13, "1993": 12}
-CURRENCY_TAG = "5F2A"
+AMOUNT_TAG, CURRENCY_TAG = "9F02", "5F2A"
+# An amount and its currency: of the transaction, of the settlement, and as the cardholder is billed. Where a link
+# converts amounts, any of them may be the one that the card certified.
+AMOUNTS = ((AMOUNT, CURRENCY), (5, 50), (6, 51))
+AMOUNT_DIGITS = 12
 
 
 class RequestRow(NamedTuple):
@@ -28,24 +32,18 @@ class RequestRow(NamedTuple):
     # The element's length, or 0 if it varies.
     length: dict[str, int]
 
-    @property
-    def is_used(self) -> bool:
-        """Whether the element matters if 55 has the tag: it is compared, or it says of what currency the amount is."""
-        return self.is_compared or self.tag == CURRENCY_TAG
-
 
 def both(number: int) -> dict[str, int]:
     return {edition: number for edition in EDITIONS}
 
 
-# In the order in which a line has their objects. Each is taken only if element 55 lacks the tag. The amount is compared
-# in one currency alone.
+# In the order in which a line has their objects. Each is taken only if element 55 lacks the tag.
 REQUEST_ROWS = (
     RequestRow(both(PAN), "5A", True, both(0)),
     RequestRow(both(TRACK_2), "5A", True, both(0)),
     RequestRow(both(PSN), "5F34", True, both(3)),
-    RequestRow(both(AMOUNT), "9F02", True, both(12)),
-    RequestRow(both(CURRENCY), CURRENCY_TAG, False, both(3)),
+    RequestRow(both(AMOUNT), AMOUNT_TAG, True, both(AMOUNT_DIGITS)),
+    RequestRow(both(CURRENCY), CURRENCY_TAG, True, both(3)),
     RequestRow(both(PROCESSING), "9C", False, both(6)),
     RequestRow(DATE, "9A", False, {"1987": 4, "1993": 12}),
 )

@@ -5,14 +5,17 @@ from typing import NamedTuple, Optional, Union
 
 from issuer_host.facts.limits import MAX_OPTION_BYTES
 from issuer_host.facts.request_lines import Torn, objects_of
-from issuer_host.gateway import mapping
+from issuer_host.gateway import currencies, mapping
 from issuer_host.gateway.dialect import Dialect
 from issuer_host.gateway.message import Message, SEPARATOR
 
 # Chip data of a line.
 MAX_CHIP_DATA = MAX_OPTION_BYTES
 HALF_A_YEAR = datetime.timedelta(days=183)
-TAG_PAN, TAG_PSN, TAG_AMOUNT, TAG_CURRENCY, TAG_TYPE = "5A", "5F34", "9F02", mapping.CURRENCY_TAG, "9C"
+TAG_PAN, TAG_PSN, TAG_TYPE = "5A", "5F34", "9C"
+TAG_AMOUNT, TAG_CURRENCY = mapping.AMOUNT_TAG, mapping.CURRENCY_TAG
+# What a link may convert: then the amounts are compared by their currencies.
+CONVERTED = (TAG_AMOUNT, TAG_CURRENCY)
 # The tags of the table, by their bytes.
 TAGS = {bytes.fromhex(row.tag): row.tag for row in mapping.REQUEST_ROWS}
 
@@ -43,7 +46,8 @@ def line_of(dialect: Dialect, message: Message, today: datetime.date) -> Union[R
     of_chip = first_objects(chip)
     try:
         of_message = objects_beside(dialect, message, of_chip, today)
-        check_amount(of_message, of_chip)
+        if dialect.is_converted:
+            check_converted(message, of_message, of_chip)
     except Disagreement as why:
         return Settled(mapping.BAD_FORMAT, str(why))
     if TAG_PAN not in of_message and TAG_PAN not in of_chip:
@@ -72,38 +76,51 @@ def first_objects(chip: bytes) -> dict[str, bytes]:
 def objects_beside(
     dialect: Dialect, message: Message, of_chip: dict[str, bytes], today: datetime.date
 ) -> dict[str, bytes]:
-    """The objects that the elements beside 55 make, by tag. Elements that have to agree and don't are a Disagreement.
-
-    The currency is empty if the element makes none, and 55 has its tag.
-    """
+    """The objects that the elements beside 55 make, by tag. Elements that have to agree and don't are a Disagreement."""
     made: dict[str, bytes] = {}
     for row in mapping.REQUEST_ROWS:
         number = row.element[dialect.edition]
         text = message.elements.get(number)
-        if not isinstance(text, str) or row.tag in of_chip and not row.is_used:
+        if not isinstance(text, str) or row.tag in of_chip and not row.is_compared:
             continue
         length = row.length[dialect.edition]
         value = value_of(row.tag, number, text, today) if length in (0, len(text)) else None
-        if value is None and (row.is_compared or row.tag not in of_chip):
+        if value is None:
             raise Disagreement(f"element {number} has no value that tag {row.tag} may have")
         if row.tag in made and made[row.tag] != value:
             raise Disagreement(f"element {number} differs from another one that makes tag {row.tag}")
         is_other = row.tag in of_chip and normal(row.tag, of_chip[row.tag]) != value
-        if row.is_compared and is_other and row.tag != TAG_AMOUNT:
+        if is_other and not (dialect.is_converted and row.tag in CONVERTED):
             raise Disagreement(f"element {number} differs from tag {row.tag} of element 55")
-        made[row.tag] = value or b""
+        made[row.tag] = value
     return made
 
 
-def check_amount(of_message: dict[str, bytes], of_chip: dict[str, bytes]) -> None:
-    """Refuses another amount than the card saw, unless it is in another currency."""
-    for tag, is_why in ((TAG_CURRENCY, False), (TAG_AMOUNT, True)):
-        both = of_message.get(tag), of_chip.get(tag)
-        differs = None not in both and both[0] != both[1]
-        if differs and is_why:
-            raise Disagreement("element 4 differs from tag 9F02 of element 55, in one currency")
-        if differs:
-            return
+def check_converted(message: Message, of_message: dict[str, bytes], of_chip: dict[str, bytes]) -> None:
+    """Of a link that converts: refuses amounts of which none is the one that the card certified.
+
+    Those in the card's currency are compared, and there has to be one.
+    """
+    amount, currency = of_chip.get(TAG_AMOUNT), of_chip.get(TAG_CURRENCY, of_message.get(TAG_CURRENCY))
+    if amount is None or currency is None:
+        return
+    compared = [it for it in mapping.AMOUNTS if currency_of(message, it[1]) == currency and it[0] in message.elements]
+    for number, _ in compared:
+        if amount_value(str(message.elements[number])) != amount:
+            raise Disagreement(f"element {number} differs from tag {TAG_AMOUNT} of element 55, in its currency")
+    if not compared:
+        raise Disagreement(f"none of elements 4, 5 and 6 has the currency of tag {TAG_CURRENCY} of element 55")
+
+
+def currency_of(message: Message, number: int) -> Optional[bytes]:
+    """The currency of an element, as its tag has it. An element that names none is a Disagreement."""
+    text = message.elements.get(number)
+    if text is None:
+        return None
+    found = currency_value(str(text))
+    if found is None:
+        raise Disagreement(f"element {number} is no currency of ISO 4217")
+    return found
 
 
 def normal(tag: str, value: bytes) -> bytes:
@@ -120,15 +137,26 @@ def value_of(tag: str, number: int, text: str, today: datetime.date) -> Optional
     if tag == TAG_PAN:
         digits = text.partition(SEPARATOR)[0] if number == mapping.TRACK_2 else text
         return pan_value(digits) if 8 <= len(digits) <= 19 and digits.isdecimal() else None
+    if tag == TAG_CURRENCY:
+        return currency_value(text)
+    if not (text.isascii() and text.isdigit()):
+        return None
     if tag == TAG_PSN:
         return bytes.fromhex(text[1:]) if text[0] == "0" else None
     if tag == TAG_AMOUNT:
-        return bytes.fromhex(text)
-    if tag == TAG_CURRENCY:
-        return bytes.fromhex(f"0{text}") if text.isdecimal() else None
+        return amount_value(text)
     if tag == TAG_TYPE:
         return bytes.fromhex(text[:2])
     return bytes.fromhex(text[:6]) if number == mapping.DATE["1993"] else date_value(text, today)
+
+
+def amount_value(text: str) -> Optional[bytes]:
+    return bytes.fromhex(text) if len(text) == mapping.AMOUNT_DIGITS and text.isascii() and text.isdigit() else None
+
+
+def currency_value(text: str) -> Optional[bytes]:
+    digits = currencies.number_of(text)
+    return bytes.fromhex(f"0{digits}") if digits else None
 
 
 def date_value(month_and_day: str, today: datetime.date) -> Optional[bytes]:
