@@ -8,6 +8,7 @@ WITHOUT_PROGRAM = (
     "tests/card",
     "tests/replication --short",
     "tests/availability",
+    "tests/admission",
     "tests/definitions --check",
     "tests/crates",
     "tests/sinks",

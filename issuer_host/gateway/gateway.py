@@ -10,8 +10,7 @@ from dataclasses import dataclass
 from typing import Any, Optional, Protocol
 
 from issuer_host.facts.statuses import Status
-from issuer_host.gateway import admission
-from issuer_host.gateway import figures as figures_of
+from issuer_host.gateway import admission, figures as figures_of
 from issuer_host.gateway.admission import Admission, PortLimits
 from issuer_host.gateway.connection import Connection
 from issuer_host.gateway.figures import Figures

@@ -10,7 +10,7 @@ import socket
 import ssl
 from asyncio import sslproto
 from collections.abc import Callable
-from typing import Optional
+from typing import Optional, cast
 
 from issuer_host.gateway import admission
 from issuer_host.gateway.admission import Admission, Arrival, Stage
@@ -162,7 +162,7 @@ class Port:
         seconds = self.admission.limits.handshake_seconds if self.context else None
         why = "the peer left"
         try:
-            await self.loop.connect_accepted_socket(
+            await cast(asyncio.BaseEventLoop, self.loop).connect_accepted_socket(
                 lambda: connection, accepted, ssl=self.context, ssl_handshake_timeout=seconds
             )
         except OSError as fault:

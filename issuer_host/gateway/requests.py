@@ -76,7 +76,7 @@ def first_objects(chip: bytes) -> dict[str, bytes]:
 def objects_beside(
     dialect: Dialect, message: Message, of_chip: dict[str, bytes], today: datetime.date
 ) -> dict[str, bytes]:
-    """The objects that the elements beside 55 make, by tag. Elements that have to agree and don't are a Disagreement."""
+    """The objects that the elements beside 55 make, by tag. Elements that have to agree, and don't, are refused."""
     made: dict[str, bytes] = {}
     for row in mapping.REQUEST_ROWS:
         number = row.element[dialect.edition]
