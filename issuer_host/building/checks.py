@@ -6,6 +6,7 @@ WITHOUT_PROGRAM = (
     "tests/lint",
     "tests/names",
     "tests/card",
+    "tests/configuration_check",
     "tests/replication --short",
     "tests/availability",
     "tests/admission",

@@ -65,7 +65,8 @@ def options_of(words: Sequence[str]) -> Options:
 def cards_of(path: str) -> list[Json]:
     """Returns the cards of the list, in its order."""
     try:
-        with open(path, encoding="utf-8", newline="") as text:
+        # (spreadsheets begin a file with a byte order mark)
+        with open(path, encoding="utf-8-sig", newline="") as text:
             rows = list(csv.reader(text))
     except OSError as fault:
         raise Refusal(f"{path} can't be read: {fault.strerror}") from fault

@@ -3,16 +3,19 @@ import os
 from collections.abc import Sequence
 from typing import NamedTuple, Optional
 
+from issuer_host.configuration.command import read_report
 from issuer_host.facts.commands import COMMANDS, CONFIG, JOURNAL, value_of
 from issuer_host.facts.journals import journal_path, old_journal_path
 from issuer_host.facts.statuses import MEANINGS, Status
 from issuer_host.launcher.closed_journals import why_closed
-from issuer_host.launcher.messages import tell
+from issuer_host.launcher.messages import complain, tell
 
 # The members of a configuration, by the part that the last line names.
 MEMBERS = {2: "shards", 3: "keys", 4: "cards", 5: "table"}
 # What a command left in the journals before it stopped.
 LEFT = {"serve": "what was answered is in the journals", "standby": "what was taken is in the journals"}
+# So many faults of a configuration are printed behind a status 2.
+MOST_FAULTS = 20
 # The word of a last line about an old journal.
 OLD = "old"
 OF_OLD_JOURNAL = (
@@ -109,4 +112,19 @@ def explained(words: Sequence[str], status: int, last: Sequence[str], took_all: 
     elif status:
         line = last_line(last)
         tell((line and cause_of(words, line)) or f"the program ended with status {status}")
+    if status == Status.CONFIGURATION:
+        for fault in faults_of(value_of(CONFIG, words)):
+            complain(fault)
     return status
+
+
+def faults_of(path: str) -> list[str]:
+    """Returns a line for each fault of a configuration; none if the file can be read only once."""
+    if not os.path.isfile(path):
+        return []
+    try:
+        faults = read_report(path).faults
+    except OSError:
+        return []
+    more = len(faults) - MOST_FAULTS
+    return faults[:MOST_FAULTS] + ([f"and {more} more: ./issuer check --config {path} has all"] if more > 0 else [])

@@ -9,7 +9,7 @@ from issuer_host.facts.journals import journal_path, old_journal_path
 # Words that stand alone, and what may follow nevertheless.
 ALONE = {"--help": "", "-h": "", "help": "", "--version": "", "prove": ", or with --anew", "test": ""}
 HELP = ("--help", "-h")
-KNOWN = (*COMMANDS, "prove", "test", "help", "--help", "--version", "--never-build", *OPTIONS)
+KNOWN = (*COMMANDS, "check", "prove", "test", "help", "--help", "--version", "--never-build", *OPTIONS)
 # What a command does over journals that it begins. If they were there before, their name is wrong.
 OVER_NOTHING = {
     "serve": "decides every request anew",

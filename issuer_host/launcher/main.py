@@ -4,6 +4,7 @@ import sys
 from collections.abc import Callable, Sequence
 from typing import Protocol
 
+from issuer_host.configuration import command as configuration_check
 from issuer_host.facts.memory import keep_from_others
 from issuer_host.facts.paths import HOME
 from issuer_host.facts.proof import read_record
@@ -68,6 +69,8 @@ def answer(words: Sequence[str], builder: FindBuilder, is_output_open: bool) -> 
     if not is_output_open:
         tell("the output is closed, so nothing was run")
         return Status.OUTPUT
+    if words[:1] == ["check"]:
+        return configuration_check.main(words[1:])
     return run(words, builder, never_builds)
 
 

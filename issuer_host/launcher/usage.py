@@ -4,6 +4,10 @@ from issuer_host.facts.commands import COMMANDS, TABLE
 # What the launcher itself does, and how it is called.
 OF_LAUNCHER = (
     (
+        "check --config FILE",
+        "names each fault of a configuration by line, column and member, then what a host accepts and nobody meant",
+    ),
+    (
         "prove [--anew]",
         "proves the program and builds it, for all later runs; what an earlier run proved is taken, except with --anew",
     ),

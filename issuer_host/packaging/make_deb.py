@@ -43,6 +43,7 @@ COMMANDS = {
     "follow": "issuer-follow",
     "gateway": "issuer-gateway",
     "look": "issuer-look",
+    "check": "issuer-check",
     "node": "issuer-node",
     "rejoin": "issuer-rejoin",
 }

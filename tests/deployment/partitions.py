@@ -108,6 +108,14 @@ def adds_cards(tally: Tally) -> None:
         tally.expect((ran.returncode, added), (0, ADDED), f"status and new cards, with {ran.stderr!r}")
 
 
+def takes_cards_of_a_spreadsheet(tally: Tally) -> None:
+    """A list of cards that begins with a byte order mark, as spreadsheets write it, is cut as one without."""
+    with new_site(tally) as site:
+        site.is_cut("to", 2)
+        site.is_cut("marked", 2, "\ufeff" + FEWER)
+        tally.expect(content_of(site.path("marked/0.json")), content_of(site.path("to/0.json")), "partition 0")
+
+
 def keys_for_aes_come(tally: Tally) -> None:
     """Keys for AES may come, and may not go."""
     with new_site(tally) as site:
@@ -182,6 +190,7 @@ CHECKS = [
     for body in (
         card_stays_in_its_partition,
         adds_cards,
+        takes_cards_of_a_spreadsheet,
         keys_for_aes_come,
         key_for_confidentiality_changes,
         refuses_what_may_not_change,
