@@ -9,7 +9,7 @@ from issuer_host.facts import answers
 from issuer_host.facts.masks import masked
 from issuer_host.gateway import mapping, requests, responses
 from issuer_host.gateway.figures import Figures
-from issuer_host.gateway.frames import BadFrame, FrameBuffer, frame_of
+from issuer_host.gateway.frames import BadFrame, FrameBuffer, KEEP_ALIVES_A_SECOND, KeepAlives, frame_of
 from issuer_host.gateway.log import Limited
 from issuer_host.gateway.message import Codec, Message, Unreadable, Unwritable
 from issuer_host.gateway.requests import RequestLine
@@ -53,7 +53,7 @@ class Connection(asyncio.BufferedProtocol):
 
     def __init__(self, owner: Owner, codec: Codec, loop: asyncio.AbstractEventLoop) -> None:
         self.owner, self.codec, self.dialect, self.loop = owner, codec, codec.dialect, loop
-        self.buffer = FrameBuffer(self.dialect, owner.limits.frame)
+        self.buffer, self.keep_alives = FrameBuffer(self.dialect, owner.limits.frame), KeepAlives()
         self.transport: Optional[asyncio.Transport] = None
         self.in_flight = 0
         self.unsent: list[bytes] = []
@@ -112,6 +112,9 @@ class Connection(asyncio.BufferedProtocol):
             except BadFrame as fault:
                 self.close_after_answers("a bad frame", str(fault))
                 return
+            if self.keep_alives.are_too_many(self.buffer.keep_alives, self.heard):
+                self.close_after_answers("keep-alives", f"more than {KEEP_ALIVES_A_SECOND} keep-alives in a second")
+                return
             if data is None:
                 self.wait_for_more()
                 return
@@ -141,6 +144,8 @@ class Connection(asyncio.BufferedProtocol):
         except Unreadable as fault:
             self.owner.figures.unreadable += 1
             self.owner.limited.tell(f"a message can't be read: {fault.why}")
+            if fault.is_of_other_edition:
+                return
             if fault.so_far is None:
                 self.close_after_answers("no message")
             elif mapping.what_to_do(fault.so_far.kind) != mapping.PASS_OVER:
@@ -196,11 +201,7 @@ class Connection(asyncio.BufferedProtocol):
             data = self.codec.pack(message)
         except Unwritable as fault:
             self.owner.limited.tell(f"a response can't be written, and is a malfunction: {fault}")
-            code = mapping.MALFUNCTION.code[self.dialect.edition]
-            message = Message(
-                message.kind, {it: message.elements[it] for it in self.dialect.echo if it in message.elements}
-            )
-            message.elements[mapping.CODE] = code
+            message = responses.malfunction(self.dialect, message)
             data = self.codec.pack(message)
         self.owner.figures.responded(str(message.elements[mapping.CODE]), self.loop.time() - began)
         if self.transport is None:

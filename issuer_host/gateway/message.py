@@ -25,6 +25,9 @@ CHARACTERS = {
 }
 SIGNS = (b"C", b"D")
 SEPARATOR = "="
+# The first digit of a type says its edition; 2 is that of 2003, which no dialect has.
+VERSION_OF = {"1987": "0", "1993": "1"}
+VERSIONS = (*VERSION_OF.values(), "2")
 HALF = 64
 
 
@@ -41,9 +44,9 @@ class Message:
 class Unreadable(Exception):
     """Bytes that are no message, and why. `so_far` is what was read before, if its type and bitmaps were."""
 
-    def __init__(self, why: str, so_far: Optional[Message] = None) -> None:
+    def __init__(self, why: str, so_far: Optional[Message] = None, is_of_other_edition: bool = False) -> None:
         super().__init__(why)
-        self.why, self.so_far = why, so_far
+        self.why, self.so_far, self.is_of_other_edition = why, so_far, is_of_other_edition
 
 
 class Unwritable(Exception):
@@ -65,7 +68,7 @@ class Codec:
 
     def __init__(self, dialect: Dialect) -> None:
         self.dialect = dialect
-        self.version = {"1987": "0", "1993": "1"}[dialect.edition]
+        self.version = VERSION_OF[dialect.edition]
         self.readers = {number: reader_of(dialect, form) for number, form in dialect.formats.items()}
         self.echoed = frozenset(dialect.echo)
         self.read_digits = packed_digits_reader(dialect) if dialect.is_packed else read_digits
@@ -73,13 +76,17 @@ class Codec:
     def unpack(self, data: bytes) -> Message:
         """The message of a frame, or Unreadable."""
         try:
-            kind, at = self.read_digits(data, 0, 4)
-            if not isinstance(kind, str) or kind[0] != self.version:
-                raise Torn(f"its type is {kind!r}, which isn't of {self.dialect.edition}")
+            read, at = self.read_digits(data, 0, 4)
+            kind = str(read)
+            if kind[0] != self.version:
+                said = f"its type is {kind!r}, which isn't of {self.dialect.edition}"
+                raise Unreadable(said, is_of_other_edition=kind[0] in VERSIONS)
             numbers, at = read_bitmaps(self.dialect, data, at)
         except Torn as why:
             raise Unreadable(str(why)) from why
         message = Message(kind)
+        if BITMAP_ELEMENTS[1] in numbers:
+            raise Unreadable("it announces a third bitmap", message)
         for number in numbers:
             reader = self.readers.get(number)
             try:
@@ -137,10 +144,7 @@ def read_bitmaps(dialect: Dialect, data: bytes, at: int) -> tuple[list[int], int
     if bits >> (HALF - 1):
         more, at = read_bits(dialect, data, at)
         bits, count = bits << HALF | more, LAST_ELEMENT
-    numbers = [number for number in range(2, count + 1) if bits >> (count - number) & 1]
-    if BITMAP_ELEMENTS[1] in numbers:
-        raise Torn("it announces a third bitmap")
-    return numbers, at
+    return [number for number in range(2, count + 1) if bits >> (count - number) & 1], at
 
 
 def read_bits(dialect: Dialect, data: bytes, at: int) -> tuple[int, int]:

@@ -41,6 +41,13 @@ def settled(dialect: Dialect, request: Message, outcome: mapping.Outcome) -> Mes
     return response_to(dialect, request, outcome.code[dialect.edition])
 
 
+def malfunction(dialect: Dialect, response: Message) -> Message:
+    """In place of a response that can't be written: what it echoes as it came, and the code of a malfunction."""
+    echoed: dict[int, Value] = {it: response.elements[it] for it in response.written}
+    code = mapping.MALFUNCTION.code[dialect.edition]
+    return Message(response.kind, {**echoed, mapping.CODE: code}, response.written)
+
+
 def answered(dialect: Dialect, request: Message, answer: str) -> Message:
     """The response to a request that a host answered."""
     decision = decision_of(answer)
