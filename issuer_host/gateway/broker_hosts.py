@@ -166,9 +166,6 @@ class BrokeredHost:
     def look(self) -> None:
         """The bridges look after their hosts."""
 
-    def measure(self) -> None:
-        """The bridges measure their journals."""
-
     def stop(self) -> None:
         self.connection.stop()
 

@@ -3,10 +3,9 @@
 Figures of hosts that the gateway starts itself have the names that a bridge's have, so the same alerts see them.
 """
 
-import asyncio
 import os
 from collections.abc import Iterator, Mapping
-from typing import Callable, Union
+from typing import Callable, NamedTuple, Optional, Union
 
 from issuer_host.facts.answers import DECISIONS, Kind, REFUSED
 from issuer_host.facts.journals import journals_of
@@ -14,9 +13,6 @@ from issuer_host.gateway.admission import REASONS
 from issuer_host.gateway.mapping import REFUSALS
 
 SECONDS = (0.001, 0.002, 0.005, 0.01, 0.02, 0.05, 0.1, 0.2, 0.5, 1, 2, 5, 10, 30)
-REQUEST_SECONDS, REQUEST_BYTES = 5.0, 4096
-HEAD = "HTTP/1.1 {status}\r\nContent-Type: text/plain; version=0.0.4; charset=utf-8\r\nContent-Length: {length}\r\n"
-END = "Connection: close\r\n\r\n"
 
 # The gateway's own, all counters but those of `GAUGES`.
 OWN = {
@@ -62,7 +58,7 @@ class Figures:
             name: {} for name in ("messages", "responses", "connections_ended", "refused", *OF_HOSTS)
         }
         self.has_hosts, self.host_up = has_hosts, [0] * partitions
-        # Sets the gauges of hosts.
+        # Sets the gauges of the port and of hosts.
         self.measure: Callable[[], None] = lambda: None
         self.buckets = [0] * (len(SECONDS) + 1)
         self.seconds = 0.0
@@ -97,17 +93,12 @@ class Figures:
                 return
         self.buckets[-1] += 1
 
-    def look_at_disk(self, partition: int, journal: str) -> None:
-        """Measures the journals and their disk."""
-        try:
-            self.set("journal_bytes", partition, sum(map(os.path.getsize, journals_of(journal))))
-            found = os.statvfs(os.path.dirname(journal) or ".")
-            self.set("journal_disk_free_bytes", partition, found.f_bavail * found.f_frsize)
-        except OSError:
-            # (the host says what is wrong with them)
-            pass
+    def set_disk(self, partition: int, disk: "Disk") -> None:
+        self.set("journal_bytes", partition, disk.journal_bytes)
+        self.set("journal_disk_free_bytes", partition, disk.free_bytes)
 
     def text(self) -> str:
+        self.measure()
         return "".join(f"{line}\n" for line in self.lines())
 
     def lines(self) -> Iterator[str]:
@@ -117,7 +108,6 @@ class Figures:
             yield from block_of(f"issuer_gateway_{name}{ending}", kind, help_text, counts)
         yield from self.histogram()
         if self.has_hosts:
-            self.measure()
             for partition, is_up in enumerate(self.host_up):
                 self.set("active", partition, is_up)
             for name, (kind, help_text) in OF_HOSTS.items():
@@ -134,6 +124,22 @@ class Figures:
         yield from lines_of(f"{name}_bucket", buckets)
         yield f"{name}_sum {self.seconds:.6f}"
         yield f"{name}_count {total}"
+
+
+class Disk(NamedTuple):
+    """What the journals of a partition have of their disk."""
+
+    journal_bytes: int
+    free_bytes: int
+
+
+def disk_of(journal: str) -> Optional[Disk]:
+    """Measures a partition's journals and their disk; None if they can't be: the host says what is wrong with them."""
+    try:
+        found = os.statvfs(os.path.dirname(journal) or ".")
+        return Disk(sum(map(os.path.getsize, journals_of(journal))), found.f_bavail * found.f_frsize)
+    except OSError:
+        return None
 
 
 def of_partition(partition: int) -> Labels:
@@ -154,22 +160,3 @@ def lines_of(name: str, counts: Mapping[Labels, Number]) -> Iterator[str]:
     for labels, count in counts.items():
         words = ",".join(f'{label}="{value}"' for label, value in labels)
         yield f"{name}{f'{{{words}}}' if words else ''} {count}"
-
-
-async def serve(figures: Figures, port: int) -> asyncio.AbstractServer:
-    """Serves the figures on the loopback."""
-
-    async def answer(reader: asyncio.StreamReader, writer: asyncio.StreamWriter) -> None:
-        try:
-            request = await asyncio.wait_for(reader.readuntil(b"\r\n\r\n"), REQUEST_SECONDS)
-            is_known = request.startswith((b"GET /metrics ", b"GET / "))
-            body = figures.text().encode() if is_known else b"GET /metrics\n"
-            head = HEAD.format(status="200 OK" if is_known else "404 Not Found", length=len(body))
-            writer.write((head + END).encode() + body)
-            await asyncio.wait_for(writer.drain(), REQUEST_SECONDS)
-        except (OSError, asyncio.IncompleteReadError, asyncio.LimitOverrunError, asyncio.TimeoutError):
-            pass
-        finally:
-            writer.close()
-
-    return await asyncio.start_server(answer, "127.0.0.1", port, limit=REQUEST_BYTES)

@@ -10,16 +10,18 @@ from dataclasses import dataclass
 from typing import Any, Optional, Protocol
 
 from issuer_host.facts.statuses import Status
-from issuer_host.gateway import admission, figures as figures_of
+from issuer_host.gateway import admission
 from issuer_host.gateway.admission import Admission, PortLimits
 from issuer_host.gateway.connection import Connection
 from issuer_host.gateway.figures import Figures
+from issuer_host.gateway.figures_page import FiguresPage
 from issuer_host.gateway.log import Limited, NAME, tell
 from issuer_host.gateway.message import Codec
 from issuer_host.gateway.port import Port
 from issuer_host.gateway.requests import RequestLine
 from issuer_host.gateway.traffic import Host, Traffic
 from issuer_host.telling import service_manager
+from issuer_host.telling.figures_server import FiguresServer
 
 TICK_SECONDS, EXPIRE_SECONDS = 1.0, 0.02
 # Of refused connections so many lines a second are told: a flood has no more than that of the log.
@@ -74,9 +76,6 @@ class Partition(Host, Protocol):
     def look(self) -> None:
         """Is called every second."""
 
-    def measure(self) -> None:
-        """Sets what is measured of its journals."""
-
     def stop(self) -> None:
         """Ends in order."""
 
@@ -102,7 +101,8 @@ class Gateway:
         self.hosts: list[Partition] = []
         limits, by_tls = bounds.of_port(context is not None), context is not None
         self.port = Port(loop, Admission(limits, by_tls), context, self.figures, Limited(PORT_LINES_A_SECOND))
-        self.servers: list[asyncio.AbstractServer] = []
+        # The names of the partitions' journals; none where the hosts are behind a broker.
+        self.journals: list[str] = []
         self.connections: set[Connection] = set()
         # Connections that have more messages, in the order in which they came to wait.
         self.waiting: dict[Connection, None] = {}
@@ -189,22 +189,21 @@ class Gateway:
             tell(f"{it.codec.dialect.name} on {it.address} port {port}{by_tls}")
         if figures_port:
             try:
-                self.servers.append(await figures_of.serve(self.figures, figures_port))
+                FiguresServer(figures_port, FiguresPage(self.loop, self.figures, self.journals)).start()
             except OSError as fault:
                 tell(f"no figures: {fault}")
 
     def measure(self) -> None:
-        """Sets what is measured of hosts when somebody asks for figures."""
+        """Sets what is measured of port and hosts when somebody asks for figures."""
         self.port.measure()
         now, counts = self.loop.time(), [0] * len(self.hosts)
         oldest = [0.0] * len(self.hosts)
         for question in self.traffic.open.values():
             counts[question.partition] += 1
             oldest[question.partition] = max(oldest[question.partition], now - question.began)
-        for number, host in enumerate(self.hosts):
+        for number in range(len(self.hosts)):
             self.figures.set("lines_in_flight", number, counts[number])
             self.figures.set("oldest_line_seconds", number, round(oldest[number], 3))
-            host.measure()
 
     def tick(self) -> None:
         self.loop.call_later(TICK_SECONDS, self.tick)
@@ -232,8 +231,6 @@ class Gateway:
         service_manager.notify(NAME, "STOPPING=1")
         tell(f"ends: {len(self.traffic.open)} messages are in flight")
         self.port.close()
-        for server in self.servers:
-            server.close()
         for connection in list(self.connections):
             connection.take()
         until = self.loop.time() + self.limits.seconds + TICK_SECONDS

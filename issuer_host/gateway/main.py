@@ -79,5 +79,6 @@ def pipe_hosts(gateway: Gateway, options: argparse.Namespace) -> list[Partition]
     found: list[Partition] = []
     for number, (config, journal) in enumerate(options_of.partition_files(options)):
         command = command_of(config, journal, options.callers, options.program)
+        gateway.journals.append(journal)
         found.append(PipeHost(gateway.loop, number, command, journal, options.window, gateway.traffic, gateway.figures))
     return found

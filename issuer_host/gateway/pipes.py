@@ -246,9 +246,6 @@ class PipeHost:
         if self.run is not None:
             self.run.kill()
 
-    def measure(self) -> None:
-        self.figures.look_at_disk(self.partition, self.journal)
-
     def refuse_others(self) -> None:
         tell(f"partition {self.partition}: the journals {self.journal} were moved or replaced: put back the first ones")
         self.give_up(Status.REFUSED)

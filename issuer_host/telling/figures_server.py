@@ -1,4 +1,4 @@
-"""Serves a bridge's figures on the loopback: few connections at a time, each for a short time."""
+"""Serves figures on the loopback, in a thread of their own: few connections at a time, each for a short time."""
 import contextlib
 import selectors
 import socket
@@ -18,7 +18,7 @@ HEAD = "HTTP/1.0 200 OK\r\nContent-Type: text/plain; version=0.0.4; charset=utf-
 
 
 class FiguresServer:
-    """One thread over all connections: whoever opens many can't take the bridge's descriptors."""
+    """One thread over all connections: whoever opens many can't take the process's descriptors."""
 
     def __init__(self, port: int, page: Callable[[], bytes]) -> None:
         self.page = page
