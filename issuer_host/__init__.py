@@ -2,6 +2,7 @@
 
 - `facts`: the facts about the program, each stated once
 - `files`: the journals and the files beside them
+- `configuration`: reads a configuration and names its faults
 - `start`: the careful start
 - `host`: one run of the program after another, supervised
 - `orders`: operators' orders and accounts' declines
@@ -29,3 +30,10 @@ A command stays where users call it, and is a few lines over a module here. It p
 The package needs Python 3.9 and its standard library alone. Every function is typed. `tests/lint` runs black, flake8
 and mypy over all Python files of the tree.
 """
+
+# The subpackages in their order: those of an installed copy, and those that need the sources.
+INSTALLED = (
+    *("facts", "files", "configuration", "start", "host", "orders", "broker", "telling", "commands", "gateway"),
+    *("replication", "launcher"),
+)
+OF_SOURCES = ("building", "packaging")

@@ -1,6 +1,6 @@
 """The tables of docs/INTEGRATION.md as data: what becomes of a message's elements, and of an answer.
 
-`tests/gateway` compares page and code.
+`tests/gateway/parts` compares page and code.
 """
 
 from typing import NamedTuple, Optional

@@ -10,6 +10,7 @@ they stand on, the service units, manual pages and pages. It needs dpkg-deb. The
 and the maintainer DEBFULLNAME and DEBEMAIL, or else those of the last commit. It prints the package's path.
 """
 import argparse
+import glob
 import hashlib
 import json
 import os
@@ -20,6 +21,7 @@ import time
 from collections.abc import Sequence
 from typing import NamedTuple
 
+from issuer_host import INSTALLED
 from issuer_host.facts import version
 from issuer_host.facts.paths import BUILD, HOME
 from issuer_host.facts.proof import is_proved
@@ -29,8 +31,6 @@ from issuer_host.packaging.tree import Tree
 
 DEPLOY = os.path.join(HOME, "deploy")
 PRIVATE = "usr/lib/issuer"
-# Folders of issuer_host that build, prove, try or package: an installed copy has none of them.
-NOT_SHIPPED = ("building", "trials", "packaging", "__pycache__")
 # The commands of deploy, and their names in an installed copy.
 COMMANDS = {
     "issuer-run": "issuer-run",
@@ -113,10 +113,9 @@ def add_program(tree: Tree, built: str) -> None:
 
 def add_package(tree: Tree) -> None:
     """Adds what launcher and commands stand on."""
-    for at, folders, names in os.walk(os.path.join(HOME, "issuer_host")):
-        folders[:] = sorted(folder for folder in folders if folder not in NOT_SHIPPED)
-        for name in sorted(name for name in names if name.endswith(".py")):
-            path = os.path.join(at, name)
+    package = os.path.join(HOME, "issuer_host")
+    for folder in (package, *(os.path.join(package, name) for name in INSTALLED)):
+        for path in sorted(glob.glob(f"{folder}/*.py")):
             tree.copy(path, f"{PRIVATE}/{os.path.relpath(path, HOME)}")
     tree.copy(version.FILE, f"{PRIVATE}/VERSION")
 

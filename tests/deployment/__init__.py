@@ -1,4 +1,4 @@
-"""The checks of `tests/deploy`: what deploy/ has around the program, where no broker is needed.
+"""The checks of `tests/deployment/deploy`: what deploy/ has around the program, where no broker is needed.
 
 - `running`: runs a command of deploy/, says what a refusal has to say, and has a host's folder and its words
 - `starts`: the refusals of deploy/issuer-run, and the starts that it lets pass; deploy/look

@@ -7,10 +7,11 @@ import tempfile
 
 from checks import Check, Tally, check_of
 from deployment.running import Ran, fails, run, run_tool
+from issuer_host import INSTALLED, OF_SOURCES
 from issuer_host.facts.paths import HOME
 from issuer_host.facts.proof import sum_of
 from issuer_host.facts.statuses import Status
-from issuer_host.packaging.make_deb import NOT_SHIPPED, PRIVATE
+from issuer_host.packaging.make_deb import PRIVATE
 from runs import content_of, write_text
 
 ENVIRONMENT = {
@@ -133,10 +134,12 @@ def needs_what_it_runs(tally: Tally) -> None:
 def has_no_part_that_builds(tally: Tally) -> None:
     """An installed copy has no module that builds, proves, tries or packages, and the launcher refuses to."""
     package = made_once(tally)[0]
-    found = {name for _, folders, _ in os.walk(package.root) for name in folders}
-    tally.expect(sorted(found & set(NOT_SHIPPED)), [], "folders that aren't shipped")
-    modules = [name for _, _, names in os.walk(package.path(PRIVATE)) for name in names if name.endswith(".py")]
-    tally.holds("__init__.py" in modules, f"the package has the modules {modules}")
+    folders = {
+        os.path.basename(os.path.dirname(one)) for one in glob.glob(package.path(f"{PRIVATE}/issuer_host/*/*.py"))
+    }
+    tally.expect(folders, set(INSTALLED), "the subpackages that are shipped")
+    found = {name for _, names, _ in os.walk(package.root) for name in names}
+    tally.expect(found & {*OF_SOURCES, "trials", "__pycache__"}, set(), "folders that aren't shipped")
     for word in ("prove", "test"):
         ran = run_tool(tally, package.path(f"{PRIVATE}/issuer"), word)
         is_refused = ran.returncode == Status.NO_PROGRAM and "there are no sources here" in ran.stderr

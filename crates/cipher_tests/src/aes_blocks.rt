@@ -90,7 +90,7 @@ const MACS: [(&[u8], u128); 4] = [
     ),
 ];
 
-/// The result of `tests/cmac_chain`, which uses OpenSSL, over the same 1,000 keys and texts.
+/// The result of `tests/program/cmac_chain`, which uses OpenSSL, over the same 1,000 keys and texts.
 const RANDOM: u128 = 0x61241D760B7F63BC_8152DA3F31205894;
 
 #[test]

@@ -1,1 +1,0 @@
-"""What tries and measures the service: `trials`."""

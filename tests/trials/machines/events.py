@@ -1,0 +1,244 @@
+"""What happens to the machines in a round of `deploy/chaos --machines`."""
+import random
+import subprocess
+import time
+import uuid
+from collections.abc import Callable, Mapping
+from typing import NamedTuple
+
+import pika
+
+from issuer_host.broker import topology
+from issuer_host.replication.messages import Barrier, Records
+from trials.machines.brokers import NODE
+from trials.machines.history import Reader, last_barrier, next_record
+from trials.machines.machines import Machines
+from trials.machines.network import Machine
+
+AWAY_SECONDS = (2.0, 8.0)
+STOPPED_SECONDS = 30.0
+BLINKS, BLINK_SECONDS = 4, (0.2, 1.5)
+CLOCKS = (-90_000, -3_600, 3_600, 90_000)
+# A status that a deposed bridge would record: no row of the table names it.
+GHOST_TRIES, STATUS = 20, 3
+
+
+class Event(NamedTuple):
+    """How often it comes, and what is done."""
+
+    weight: int
+    does: Callable[[Machines, random.Random], object]
+
+
+def away(dice: random.Random) -> None:
+    time.sleep(dice.uniform(*AWAY_SECONDS))
+
+
+def lose_power(machines: Machines, dice: random.Random) -> None:
+    """A machine is gone without a word."""
+    machine = machines.pick_serving(dice)
+    machines.switch_off(machine)
+    away(dice)
+    machines.switch_on(machine)
+
+
+def kill_machine(machines: Machines, dice: random.Random) -> None:
+    """All that runs on a machine is killed, and its connections end."""
+    machine = machines.pick_serving(dice)
+    machines.switch_off(machine, is_heard=True)
+    away(dice)
+    machines.switch_on(machine)
+
+
+def replace_machine(machines: Machines, dice: random.Random) -> None:
+    """A machine loses its disk, and begins from copies of another's journals, which go on meanwhile."""
+    machine = machines.pick_serving(dice)
+    other = dice.choice([one for one in machines.network.machines if one != machine])
+    machines.switch_off(machine)
+    machines.replace_journals(machine, other)
+    machines.switch_on(machine)
+
+
+def kill_two(machines: Machines, dice: random.Random) -> None:
+    """Two machines go one after another, and come back so."""
+    first, second = dice.sample(machines.network.machines, 2)
+    machines.switch_off(first)
+    away(dice)
+    machines.switch_off(second)
+    away(dice)
+    machines.switch_on(first)
+    away(dice)
+    machines.switch_on(second)
+
+
+def kill_all(machines: Machines, dice: random.Random) -> None:
+    """All machines go at once, and come back. (What was written stays: their memory isn't lost.)"""
+    for machine in machines.network.machines:
+        machines.switch_off(machine)
+    away(dice)
+    for machine in machines.network.machines:
+        machines.switch_on(machine)
+
+
+def cut_machine(machines: Machines, dice: random.Random) -> None:
+    """All packets of a machine are lost, for a while."""
+    machine = machines.pick_serving(dice)
+    machines.network.silence(machine)
+    time.sleep(2 * dice.uniform(*AWAY_SECONDS))
+    machines.network.hear(machine)
+
+
+def unplug_machine(machines: Machines, dice: random.Random) -> None:
+    """A machine's interface is down, for a while."""
+    machine = machines.pick_serving(dice)
+    machines.network.unplug(machine)
+    away(dice)
+    machines.network.plug(machine)
+
+
+def part_machines(machines: Machines, dice: random.Random) -> None:
+    """A machine hears one of the two others, and that one hears both."""
+    one = machines.pick_serving(dice)
+    other = dice.choice([machine for machine in machines.network.machines if machine != one])
+    machines.network.part(one, other)
+    time.sleep(2 * dice.uniform(*AWAY_SECONDS))
+    machines.network.heal()
+
+
+def blink_link(machines: Machines, dice: random.Random) -> None:
+    """A machine's packets are lost again and again."""
+    machine = machines.pick_serving(dice)
+    for _ in range(BLINKS):
+        machines.network.silence(machine)
+        time.sleep(dice.uniform(*BLINK_SECONDS))
+        machines.network.hear(machine)
+        time.sleep(dice.uniform(*BLINK_SECONDS))
+
+
+def stop_machine(machines: Machines, dice: random.Random) -> None:
+    """All that runs on a machine stands still, and goes on as if nothing had been."""
+    machine = machines.pick_serving(dice)
+    machines.stop(machine)
+    time.sleep(STOPPED_SECONDS)
+    machines.go_on(machine)
+
+
+def stop_node(machines: Machines, dice: random.Random) -> None:
+    """A node alone stands still: its broker goes on, and gives its queues to others."""
+    node = machines.node_of(machines.pick_serving(dice))
+    node.stop()
+    time.sleep(STOPPED_SECONDS)
+    node.go_on()
+
+
+def kill_node(machines: Machines, dice: random.Random) -> None:
+    machines.node_of(machines.pick_serving(dice)).kill()
+
+
+def end_node(machines: Machines, dice: random.Random) -> None:
+    machines.node_of(machines.pick_serving(dice)).terminate()
+
+
+def kill_host(machines: Machines, dice: random.Random) -> None:
+    machines.node_of(machines.pick_serving(dice)).kill_host(dice)
+
+
+def kill_broker(machines: Machines, dice: random.Random) -> None:
+    """A broker's node is killed, and started again."""
+    machines.restart_broker(machines.pick_serving(dice), dice.uniform(*AWAY_SECONDS))
+
+
+def leader_of(machines: Machines, partition: int) -> Machine:
+    """Returns the machine that leads a partition's stream."""
+    text = machines.brokers.nodes[0].control("list_queues", "name", "leader", "--no-table-headers")
+    for line in text.splitlines():
+        name, _, leader = line.partition("\t")
+        if name == topology.stream_of(partition):
+            return next(machine for machine in machines.network.machines if leader.endswith(f"@{machine.address}"))
+    raise RuntimeError(f"the stream of partition {partition} has no leader")
+
+
+def kill_leader(machines: Machines, dice: random.Random) -> None:
+    """The broker's node that leads a stream is killed, and started again."""
+    machine = leader_of(machines, dice.randrange(machines.partitions))
+    machines.restart_broker(machine, dice.uniform(*AWAY_SECONDS))
+
+
+def fill_disk(machines: Machines, dice: random.Random) -> None:
+    machines.fill_disk(machines.pick_serving(dice))
+
+
+def set_clock(machines: Machines, dice: random.Random) -> None:
+    """The clock of a machine is set, and stays so."""
+    machine = machines.pick_serving(dice)
+    machines.clocks[machines.network.machines.index(machine)].set(dice.choice(CLOCKS))
+
+
+def go_on_deposed(machines: Machines, dice: random.Random) -> None:
+    """A bridge that was deaf for a while writes as if it were the active one."""
+    haunt(machines, dice.randrange(machines.partitions))
+
+
+def haunt(machines: Machines, partition: int) -> None:
+    """Writes what a deposed bridge may write: a barrier without a greater number, and records that come too late."""
+    for attempt in range(GHOST_TRIES):
+        file = machines.brokers.url_file(NODE, machines.network.machines[attempt % len(machines.network.machines)])
+        try:
+            write_ghosts(file, partition)
+            return
+        except (pika.exceptions.AMQPError, OSError, RuntimeError):
+            time.sleep(1.0)
+    raise RuntimeError("the stream can't be written")
+
+
+def write_ghosts(file: str, partition: int) -> None:
+    """Writes what counts nowhere, and reads that it is there."""
+    reader = Reader(file, partition)
+    messages = reader.read()
+    reader.close()
+    barrier = last_barrier(messages)
+    record = next_record(messages, STATUS)
+    name = f"ghost.{uuid.uuid4().hex}"
+    reader = Reader(file, partition)
+    reader.write(Barrier(barrier.number, name, "m0"))
+    reader.write(Records(name, 1, (record,)))
+    late = Records(f"deposed.{uuid.uuid4().hex}", 1, (record,))
+    reader.write(late)
+    found = reader.read()
+    reader.close()
+    if late not in found:
+        raise RuntimeError("what was written isn't there")
+
+
+EVENTS: Mapping[str, Event] = {
+    "power": Event(4, lose_power),
+    "machine": Event(3, kill_machine),
+    "two": Event(2, kill_two),
+    "all": Event(1, kill_all),
+    "replaced": Event(2, replace_machine),
+    "cut": Event(4, cut_machine),
+    "unplugged": Event(2, unplug_machine),
+    "parted": Event(3, part_machines),
+    "blink": Event(2, blink_link),
+    "stopped": Event(3, stop_machine),
+    "node stopped": Event(2, stop_node),
+    "node": Event(3, kill_node),
+    "term": Event(2, end_node),
+    "host": Event(2, kill_host),
+    "broker": Event(2, kill_broker),
+    "leader": Event(3, kill_leader),
+    "disk": Event(2, fill_disk),
+    "clock": Event(2, set_clock),
+    "deposed": Event(3, go_on_deposed),
+}
+
+
+def happen(machines: Machines, event: str, dice: random.Random) -> None:
+    """Has an event happen, and waits until all brokers are back. A fault of its own is noted."""
+    if machines.is_loud:
+        print(f"{time.strftime('%H:%M:%S')} {event}", flush=True)
+    try:
+        EVENTS[event].does(machines, dice)
+        machines.wait_for_brokers()
+    except (OSError, RuntimeError, StopIteration, subprocess.SubprocessError) as fault:
+        machines.faults.append(f"{event}: {fault!r}")
