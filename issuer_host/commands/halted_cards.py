@@ -14,6 +14,8 @@ from typing import NamedTuple, Optional
 
 from issuer_host.facts.journals import journals_of
 from issuer_host.facts.refusal import tell
+from issuer_host.files.run_mark import mark_path
+from issuer_host.files.seals import seals_path
 from issuer_host.host import offline
 from issuer_host.telling import textfile
 
@@ -41,7 +43,10 @@ def options_of(words: Sequence[str]) -> Options:
 def look(options: Options) -> None:
     """Shows a copy of the journals. A record that is written meanwhile is a torn last line of the copy, or is in it."""
     with tempfile.TemporaryDirectory(prefix="issuer-look-") as room:
-        for path in journals_of(options.journal):
+        paths = journals_of(options.journal)
+        # (mark and seals first, so that they ask for no record that the copy lacks)
+        beside = filter(os.path.exists, [mark_path(options.journal), *map(seals_path, paths)])
+        for path in (*beside, *paths):
             shutil.copyfile(path, os.path.join(room, os.path.basename(path)))
         copied = os.path.join(room, os.path.basename(options.journal))
         cards = offline.show(options.config, copied, options.program)

@@ -6,7 +6,7 @@ from issuer_host.facts.refusal import Refusal
 # A new try ends in the same way until somebody has made, mounted, moved or granted something.
 LASTING = (
     *(errno.ENOENT, errno.ENOTDIR, errno.EISDIR, errno.ELOOP, errno.ENAMETOOLONG),
-    *(errno.EACCES, errno.EPERM, errno.EROFS, errno.ENOEXEC),
+    *(errno.EACCES, errno.EPERM, errno.EROFS, errno.ENOEXEC, errno.ENXIO),
 )
 
 

@@ -1,16 +1,35 @@
-"""The mark of a run beside its journals: whether one may append to them, and how long they were after the last one.
+"""The mark of a run beside its journals: whether one may append to them, and what the last one left.
 
-The file `NAME.run` is locked by a run for as long as it lives: a careful start hands the lock over to the program.
-While one may append, the file is empty. After its end it has a line for each journal: the shard and the bytes.
+The file `NAME.run` is locked by a run for as long as it lives: a careful start hands the lock over to the program. It
+has a line for each journal: the shard, the bytes of the journal's whole lines, and how many seals it has. While a run
+may append, each line ends with `+`: journal and seals had so much when the run began, and have no less since.
 """
 import fcntl
 import os
+from collections.abc import Mapping
 from typing import Optional
 
-from issuer_host.facts.journals import journal_path, shards_of_files
+from issuer_host.facts.journals import MAX_RECORD_LINE, journal_path, shards_of_files
+from issuer_host.files.regular_files import open_regular
+from issuer_host.files.seals import Left, count_seals
 
 ENDING = ".run"
 MOST = 4096
+GROWS = "+"
+
+
+def text_of(shard: int, left: Left) -> str:
+    numbers = [shard, left.size, *([] if left.seals is None else [left.seals])]
+    return " ".join([*map(str, numbers), *[GROWS] * left.may_have_grown]) + "\n"
+
+
+def left_of(words: list[str]) -> Optional[Left]:
+    """Returns what the words after a line's shard say; None if they are of another form."""
+    grows = words[-1:] == [GROWS]
+    numbers = words[:-1] if grows else words
+    if len(numbers) not in (1, 2) or not all(word.isdecimal() for word in numbers):
+        return None
+    return Left(int(numbers[0]), int(numbers[1]) if len(numbers) > 1 else None, grows)
 
 
 def mark_path(name: str) -> str:
@@ -24,27 +43,43 @@ class RunMark:
         self.name = name
         self.file = file
 
-    def sizes(self) -> dict[int, int]:
-        """Returns how long the journals were when the last run ended; nothing if one may have appended since."""
-        found = {}
+    def left(self) -> dict[int, Left]:
+        """Returns what the last run left, by shard, as far as the mark says it."""
+        found: dict[int, Left] = {}
         for line in os.pread(self.file, MOST, 0).decode("ascii", errors="replace").splitlines():
-            shard, _, size = line.partition(" ")
-            if shard.isdecimal() and size.isdecimal():
-                found[int(shard)] = int(size)
+            shard, *words = line.split(" ")
+            left = left_of(words)
+            if shard.isdecimal() and left is not None:
+                found.setdefault(int(shard), left)
         return found
 
     def may_append(self) -> None:
-        """From now on a run may append."""
-        os.ftruncate(self.file, 0)
+        """From now on a run may append that no careful start began."""
+        self.write({shard: left._replace(may_have_grown=True) for shard, left in self.left().items()})
+
+    def has_begun(self) -> None:
+        """From now on a run may append. The journals were checked, and all their records are sealed."""
+        self.write({shard: left._replace(may_have_grown=True) for shard, left in self.left_now().items()})
 
     def has_ended(self) -> None:
         """No run appends any more, until the next one begins."""
-        lines = [
-            f"{shard} {os.path.getsize(journal_path(self.name, shard))}\n"
-            for shard in shards_of_files(self.name).journals
-        ]
-        os.ftruncate(self.file, 0)
-        os.pwrite(self.file, "".join(lines).encode(), 0)
+        self.write(self.left_now())
+
+    def is_cut(self, shard: int, left: Left) -> None:
+        """A journal and its seals are truncated next: a start after a crash asks for no more of them."""
+        self.may_append()
+        self.write(self.left() | {shard: left._replace(may_have_grown=True)})
+
+    def left_now(self) -> dict[int, Left]:
+        """Returns what the journals have, durably."""
+        return {shard: measured(journal_path(self.name, shard)) for shard in shards_of_files(self.name).journals}
+
+    def write(self, left: Mapping[int, Left]) -> None:
+        """Writes the mark anew, durably. (A crash between its steps leaves lines of before after those of now.)"""
+        text = "".join(text_of(shard, one) for shard, one in left.items()).encode()
+        os.pwrite(self.file, text, 0)
+        os.ftruncate(self.file, len(text))
+        os.fsync(self.file)
 
     def hand_over(self) -> None:
         """Lets the program that this process becomes hold the lock."""
@@ -54,11 +89,29 @@ class RunMark:
         os.close(self.file)
 
 
+def measured(journal: str) -> Left:
+    """Returns what a journal has, once it is durable."""
+    with open(open_regular(journal, os.O_RDONLY), "rb") as opened:
+        os.fdatasync(opened.fileno())
+        return Left(end_of_lines(opened.fileno()), count_seals(journal), False)
+
+
+def end_of_lines(file: int) -> int:
+    """Returns where the last whole line of a file ends."""
+    at = os.fstat(file).st_size
+    while at:
+        first = max(at - MAX_RECORD_LINE, 0)
+        newline = os.pread(file, at - first, first).rfind(b"\n")
+        if newline >= 0:
+            return first + newline + 1
+        at = first
+    return 0
+
+
 def lock_mark(name: str, creates: bool = True) -> Optional[RunMark]:
     """Locks the mark of journals. Returns None while a run has it, or if there is none and none is to be created."""
-    flags = os.O_RDWR | os.O_NOFOLLOW | os.O_CLOEXEC | (os.O_CREAT if creates else 0)
     try:
-        file = os.open(mark_path(name), flags, 0o600)
+        file = open_regular(mark_path(name), os.O_RDWR | (os.O_CREAT if creates else 0))
     except FileNotFoundError:
         return None
     try:

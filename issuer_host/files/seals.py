@@ -16,12 +16,14 @@ from typing import IO, NamedTuple, Optional
 
 from issuer_host.facts.journals import MAX_RECORD_LINE, VERSION_LINE
 from issuer_host.facts.refusal import Refusal
+from issuer_host.files.regular_files import open_regular
 from issuer_host.files.whole_writes import write_whole
 
 ENDING = ".seals"
 DIGITS = 32
 LINE = DIGITS + 1
 FIRST = b"0" * DIGITS
+SEAL = re.compile(rb"[0-9a-f]{32}\n")
 PIECE = 1 << 20
 # So many seals are appended at a time.
 MOST_APPENDED = 1 << 14
@@ -29,6 +31,10 @@ MOST_APPENDED = 1 << 14
 TORN = re.compile(rb"v2?|[dqs]( [0-9a-fA-F-]*)*")
 # The word of issuer-run that takes the journals as they are.
 ACCEPTS = "--accept-journals"
+
+
+def seals_path(journal: str) -> str:
+    return journal + ENDING
 
 
 def seal_of(before: bytes, line: bytes) -> bytes:
@@ -44,13 +50,20 @@ def seals_of(before: bytes, lines: Iterable[bytes]) -> list[bytes]:
     return found
 
 
+def count_seals(journal: str) -> int:
+    """Returns how many seals the file beside a journal has room for."""
+    try:
+        return os.path.getsize(seals_path(journal)) // LINE
+    except FileNotFoundError:
+        return 0
+
+
 class Seals:
     """A journal's file of seals. Several processes may append to it, each under its lock."""
 
     def __init__(self, journal: str) -> None:
-        self.path = journal + ENDING
-        flags = os.O_RDWR | os.O_CREAT | os.O_NOFOLLOW | os.O_CLOEXEC
-        self.file = os.open(self.path, flags, 0o600)
+        self.path = seals_path(journal)
+        self.file = open_regular(self.path, os.O_RDWR | os.O_CREAT)
         # How many there are, as of the last look under the lock.
         self.count = 0
 
@@ -66,27 +79,32 @@ class Seals:
         fcntl.flock(self.file, fcntl.LOCK_EX)
         try:
             size = os.fstat(self.file).st_size
-            self.count = size // LINE
-            if size % LINE:
-                # (a crash tore the last line)
+            self.count = self.count_whole(size // LINE)
+            if size != self.count * LINE:
+                # (a crash tore the last line, or a loss of power left zeros)
                 os.ftruncate(self.file, self.count * LINE)
             yield
         finally:
             fcntl.flock(self.file, fcntl.LOCK_UN)
 
+    def count_whole(self, lines: int) -> int:
+        """Returns how many of the first lines there are up to the last one that is a seal."""
+        while lines and not SEAL.fullmatch(os.pread(self.file, LINE, (lines - 1) * LINE)):
+            lines -= 1
+        return lines
+
     def last(self) -> bytes:
         return os.pread(self.file, DIGITS, (self.count - 1) * LINE) if self.count else FIRST
 
-    def each(self) -> Iterator[bytes]:
-        """Returns the seals, in their order."""
+    def each(self) -> Iterator[Optional[bytes]]:
+        """Returns the seals, in their order; None for a line that is none."""
         at = 0
         while at < self.count:
             piece = os.pread(self.file, min(self.count - at, MOST_APPENDED) * LINE, at * LINE)
-            found = piece.split()
-            if not found:
-                return
-            yield from found
-            at += len(found)
+            for first in range(0, len(piece), LINE):
+                line = piece[first : first + LINE]
+                yield line[:-1] if SEAL.fullmatch(line) else None
+            at += len(piece) // LINE
 
     def append(self, seals: Sequence[bytes]) -> None:
         """Appends seals durably, or leaves what is there. The lock is held."""
@@ -100,8 +118,9 @@ class Seals:
         self.count += len(seals)
 
     def forget_after(self, count: int) -> None:
-        """Leaves the first seals alone. The lock is held."""
+        """Leaves the first seals alone, durably. The lock is held."""
         os.ftruncate(self.file, count * LINE)
+        os.fsync(self.file)
         self.count = count
 
 
@@ -112,26 +131,92 @@ class Checked(NamedTuple):
     torn: int
 
 
-def check_sealed(journal: str, size: Optional[int] = None, accepts: bool = False) -> Checked:
-    """Refuses a journal that isn't what its seals say, and seals the records that have none yet.
+class Left(NamedTuple):
+    """What a run left of a journal, or found when it began."""
 
-    `size` is how long it was when its last run ended, if that is known: a longer one has records that no run wrote. A
-    journal that is accepted as it is loses the seals that it doesn't meet.
+    # The bytes of its whole lines.
+    size: int
+    # None if an older release wrote the mark.
+    seals: Optional[int]
+    # Whether a run may have appended since.
+    may_have_grown: bool
+
+
+# What there was of a journal before its first record.
+NOTHING = Left(0, 0, True)
+
+
+def check_sealed(journal: str, before: Optional[Left] = None, accepts: bool = False) -> Checked:
+    """Refuses a journal that isn't what its seals and the mark say, and seals the records that have no seal yet.
+
+    `before` is what the last run left or found, if that is known. A journal that is accepted as it is loses the seals
+    that it doesn't meet.
     """
-    flags = os.O_RDONLY | os.O_NOFOLLOW | os.O_CLOEXEC
-    with open(os.open(journal, flags), "rb") as opened, Seals(journal) as seals, seals.locked():
+    with open(open_regular(journal, os.O_RDONLY), "rb") as opened, Seals(journal) as seals, seals.locked():
         torn = torn_of(opened)
+        size = os.fstat(opened.fileno()).st_size
         if not accepts:
             check_torn(journal, torn)
         reading = Reading(journal, opened, accepts)
-        if reading.line() == VERSION_LINE.encode():
+        has_records = reading.line() == VERSION_LINE.encode()
+        if has_records:
             reading = check_same(reading, opened, seals)
-            check_grown(reading, size, seals)
-            append_missing(reading, seals)
         elif not reading.at and seals.count:
             check_accepted(reading, of_other(journal, 0, seals.count, is_missing=True))
             seals.forget_after(0)
+        if not accepts:
+            check_shorter(journal, size, before)
+            check_fewer(journal, size, seals, before)
+        if has_records:
+            check_grown(reading, before, seals)
+            append_missing(reading, seals)
         return Checked(seals.count, len(torn))
+
+
+def check_shorter(journal: str, size: int, before: Optional[Left]) -> None:
+    """Refuses a journal that is shorter than the last run left it, or found it, with records."""
+    if before is not None and size < before.size and before.size > len(VERSION_LINE):
+        raise refused(
+            f"{journal} has {size} bytes, and had {before.size} when the last run {word_of(before)}: records are"
+            " missing at its end, and would be decided again. Restore the journal from a copy that has them"
+        )
+
+
+def check_fewer(journal: str, size: int, seals: Seals, before: Optional[Left]) -> None:
+    """Refuses a journal with records whose seals are missing: it could be an older one, or a changed one.
+
+    Journals that began without records have no seals until a start or who runs the host writes them.
+    """
+    if size <= len(VERSION_LINE):
+        return
+    if before is None or before.seals is None:
+        is_new = before is not None and before.size <= len(VERSION_LINE)
+        is_missing, had = not seals.count and not is_new, "and the journal has records"
+    else:
+        is_missing = seals.count < before.seals
+        had = f"and had {before.seals} seals when the last run {word_of(before)}"
+    if is_missing:
+        raise refused(
+            f"{seals.path} has {seals.count} seals, {had}: an older or changed journal would be taken for the right"
+            " one. Restore the seals that belong to the journal"
+        )
+
+
+def word_of(before: Left) -> str:
+    return "began" if before.may_have_grown else "ended"
+
+
+def refused(why: str) -> Refusal:
+    return Refusal(f"{why}. If it is right as it is, add {ACCEPTS}, once")
+
+
+def copy_seals(source: str, target: str, count: int) -> None:
+    """Gives the copy of a journal's first records their seals, as far as there are, and refuses what they don't fit."""
+    with Seals(source) as seals, seals.locked():
+        found = list(itertools.takewhile(bool, itertools.islice(seals.each(), count)))
+    with Seals(target) as seals, seals.locked():
+        seals.append([seal for seal in found if seal is not None])
+    check_sealed(target, NOTHING)
 
 
 def torn_of(opened: IO[bytes]) -> bytes:
@@ -157,6 +242,7 @@ class Reading:
 
     def __init__(self, journal: str, opened: IO[bytes], accepts: bool) -> None:
         self.journal = journal
+        self.opened = opened
         self.accepts = accepts
         self.lines = lines_of(opened)
         self.seal = FIRST
@@ -216,7 +302,7 @@ def check_same(reading: Reading, opened: IO[bytes], seals: Seals) -> Reading:
     again.line()
     for index, then in enumerate(seals.each()):
         now = again.next_seal()
-        if now != then:
+        if now is None or then is not None and now != then:
             check_accepted(again, of_other(again.journal, index, seals.count, now is None))
             seals.forget_after(index)
             if now is not None:
@@ -240,14 +326,14 @@ def of_other(journal: str, index: int, sealed: int, is_missing: bool) -> str:
 
 def check_accepted(reading: Reading, why: str) -> None:
     if not reading.accepts:
-        raise Refusal(f"{why}. If it is right as it is, add {ACCEPTS}, once")
+        raise refused(why)
 
 
-def check_grown(reading: Reading, size: Optional[int], seals: Seals) -> None:
+def check_grown(reading: Reading, before: Optional[Left], seals: Seals) -> None:
     """Refuses records that came after the last run had ended. Those that it wrote and nobody sealed are sealed."""
-    if size is None:
+    if before is None or before.may_have_grown:
         return
-    append_missing(reading, seals, size)
+    append_missing(reading, seals, before.size)
     grown = reading.next_seal()
     if grown is None:
         return
@@ -260,12 +346,19 @@ def check_grown(reading: Reading, size: Optional[int], seals: Seals) -> None:
 
 
 def append_missing(reading: Reading, seals: Seals, end: Optional[int] = None) -> None:
-    """Seals the records that have no seal yet; those alone that begin before a place, if one is given."""
+    """Seals the records that have no seal yet; those alone that begin before a place, if one is given.
+
+    A record that a killed run wrote may not be durable yet, and its seal would outlive it: so the journal is synced.
+    """
     missing: list[bytes] = []
+    is_synced = False
     while end is None or reading.at < end:
         seal = reading.next_seal()
         if seal is None:
             break
+        if not is_synced:
+            os.fdatasync(reading.opened.fileno())
+            is_synced = True
         missing.append(seal)
         if len(missing) == MOST_APPENDED:
             seals.append(missing)

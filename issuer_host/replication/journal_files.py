@@ -13,7 +13,7 @@ from issuer_host.facts.refusal import Refusal
 from issuer_host.facts.statuses import NOT_AGAIN, Status, meaning_of
 from issuer_host.files.run_mark import RunMark, lock_mark
 from issuer_host.files.seal_writer import Sealing
-from issuer_host.files.seals import Seals
+from issuer_host.files.seals import Left, Seals, count_seals
 from issuer_host.host.event_loop import Loop
 from issuer_host.host.process import Host
 from issuer_host.replication.messages import NOTES, Record
@@ -180,7 +180,9 @@ class JournalFiles:
         self.end_standby_now()
         mark = self.locked_mark()
         try:
-            cut(found.path, found.forget_beyond(length), length)
+            size = found.forget_beyond(length)
+            mark.is_cut(shard, Left(size, min(length, count_seals(found.path)), True))
+            cut(found.path, size, length)
             mark.has_ended()
         finally:
             mark.close()
@@ -283,10 +285,10 @@ def filled(numbers: Sequence[int], last: int) -> tuple[int, ...]:
 
 
 def cut(path: str, size: int, length: int) -> None:
-    """Truncates a journal and its seals durably."""
-    with open(path, "rb+") as opened:
-        opened.truncate(size)
-        os.fsync(opened.fileno())
+    """Truncates a journal and its seals durably: the seals first, since a start asks for each record that has one."""
     with Seals(path) as seals, seals.locked():
         if seals.count > length:
             seals.forget_after(length)
+    with open(path, "rb+") as opened:
+        opened.truncate(size)
+        os.fsync(opened.fileno())

@@ -1,13 +1,12 @@
 """A machine's position in a partition's stream, in a file beside the journals.
 
 `JOURNAL.position` says up to which message the journals have what counts: the message's offset and digest, the last
-barrier that counts there, how many records of each shard count, and how many bytes of its journal these are. It may be
-behind the journals, and never before them. Before the first message the digest is that of the journals that the
-partition begins with: all machines begin with the same ones.
+barrier that counts there, how many records of each shard count, and how many bytes of its journal these are. The line
+has a sum of itself. It may be behind the journals, and never before them. Before the first message the digest is that
+of the journals that the partition begins with: all machines begin with the same ones.
 """
 import functools
 import hashlib
-import json
 import os
 import queue
 import threading
@@ -16,6 +15,9 @@ from typing import Any, NamedTuple, Optional
 
 from issuer_host.facts.journals import POSITION, VERSION_LINE, journal_path, old_journal_path, shards_of_files
 from issuer_host.facts.refusal import Refusal
+from issuer_host.files.regular_files import open_regular
+from issuer_host.files.seals import copy_seals
+from issuer_host.files.summed_lines import said_of, summed
 from issuer_host.host.event_loop import Loop
 from issuer_host.replication.messages import Barrier, LOGS, Mark, NAME, NOTES, text_of
 from issuer_host.replication.notes import read_notes, write_notes
@@ -55,21 +57,25 @@ def read(journal: str) -> Position:
     """Returns the position beside journals. Refuses one that is missing, or that isn't behind the journals."""
     path = position_path(journal)
     try:
-        with open(path, encoding="utf-8") as text:
-            found = position_of(json.load(text))
+        with open(open_regular(path, os.O_RDONLY), encoding="utf-8") as text:
+            found = position_of(said_of(text.read().rstrip("\n")))
     except FileNotFoundError as fault:
         raise Refusal(
             f"there is no {path}: begin the partition by deploy/node --begin, once, on all machines with the same"
             " journals, or copy another machine's journals by deploy/node --copy"
         ) from fault
     except (ValueError, KeyError, TypeError) as fault:
-        raise Refusal(f"{path} is no position: copy another machine's journals by deploy/node --copy") from fault
+        raise Refusal(
+            f"{path} is no position, or was changed: copy another machine's journals by deploy/node --copy"
+        ) from fault
     check(journal, found)
     return found
 
 
 def position_of(said: "dict[str, Any]") -> Position:
     """Returns the position that a file says. Another one is a ValueError, a KeyError or a TypeError."""
+    if set(said) != set(Position._fields):
+        raise ValueError("another member")
     barrier = Barrier(*said["barrier"])
     counts, sizes = tuple(said["counts"]), tuple(said["sizes"])
     numbers = (said["offset"], barrier.number, *counts, *sizes)
@@ -83,31 +89,36 @@ def position_of(said: "dict[str, Any]") -> Position:
 
 
 def check(journal: str, position: Position) -> None:
-    """Refuses a position whose records the journals lack."""
+    """Refuses a position that counts other records than the journals have up to its bytes."""
     for shard, (count, size) in enumerate(zip(position.counts[:NOTES], position.sizes)):
-        if count and not ends_line(journal_path(journal, shard), size):
+        path = journal_path(journal, shard)
+        if (count or size > len(VERSION_LINE)) and records_up_to(path, size) != count:
             raise Refusal(
-                f"{journal_path(journal, shard)} hasn't the {count} records that {position_path(journal)} counts: copy"
+                f"{path} hasn't the {count} records that {position_path(journal)} counts up to {size} bytes: copy"
                 " another machine's journals by deploy/node --copy"
             )
 
 
-def ends_line(path: str, size: int) -> bool:
-    """Whether a file has a line that ends after so many bytes."""
+def records_up_to(path: str, size: int) -> Optional[int]:
+    """Returns how many records end within the first bytes of a journal; None if no line ends just there."""
+    lines, last = 0, b""
     try:
-        with open(path, "rb") as opened:
-            return os.pread(opened.fileno(), 1, size - 1) == b"\n"
+        with open(open_regular(path, os.O_RDONLY), "rb") as opened:
+            while size and (piece := opened.read(min(size, PIECE))):
+                lines += piece.count(b"\n")
+                last = piece[-1:]
+                size -= len(piece)
     except FileNotFoundError:
-        return False
+        return None
+    return None if size or last != b"\n" else lines - 1
 
 
 def write(journal: str, position: Position) -> None:
     """Puts a position in place of the one before, durably."""
     path = position_path(journal)
     new = path + ".new"
-    flags = os.O_WRONLY | os.O_CREAT | os.O_TRUNC | os.O_NOFOLLOW | os.O_CLOEXEC
-    with open(os.open(new, flags, 0o600), "w", encoding="utf-8") as to:
-        to.write(json.dumps(position._asdict()) + "\n")
+    with open(open_regular(new, os.O_WRONLY | os.O_CREAT | os.O_TRUNC), "w", encoding="utf-8") as to:
+        to.write(summed(position._asdict()) + "\n")
         to.flush()
         os.fsync(to.fileno())
     os.replace(new, path)
@@ -202,6 +213,8 @@ def copy(source: str, target: str) -> Position:
     for shard in shards_of_files(source).journals:
         copy_bytes(journal_path(source, shard), journal_path(target, shard), found.sizes[shard])
     check(target, found)
+    for shard in shards_of_files(target).journals:
+        copy_seals(journal_path(source, shard), journal_path(target, shard), found.counts[shard])
     first, notes = read_notes(source)
     write_notes(target, first, notes[: found.counts[NOTES] - first])
     write(target, found)

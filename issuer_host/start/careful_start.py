@@ -15,11 +15,12 @@ The words from the command on are the program's own; see issuer(1). Before it ha
   that --requests or --feed names
 - no journal is empty where another has records
 - each journal is what the seals beside it say (`JOURNAL.seals`), and hasn't grown since its last run ended (`NAME.run`)
+- no journal is shorter, and no seals are fewer, than the last run found or left them
 - no bytes come after a journal's last newline that no crash leaves. How many a crash left is told
 - serve and standby don't append to journals that are replicated (`NAME.position`): only a node does, with --node
 
---accept-journals, once, takes the journals as they are where one of the three before the last is refused: what they
-lack is forgotten, and seals are made anew.
+--accept-journals, once, accepts the journals as they are where one of the four before the last is refused: the host
+forgets what they lack, and seals are made anew.
 
 Started by root over journals in another user's folder, it goes on as that user, who need not be able to read the
 configuration's file. It allows no core of itself and of the program.

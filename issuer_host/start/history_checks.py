@@ -8,8 +8,9 @@ from typing import Optional
 
 from issuer_host.facts.journals import journal_path, old_journal_path
 from issuer_host.facts.refusal import tell
+from issuer_host.files.regular_files import open_regular
 from issuer_host.files.run_mark import RunMark, lock_mark, mark_path
-from issuer_host.files.seals import check_sealed
+from issuer_host.files.seals import Left, check_sealed
 from issuer_host.start.journal_checks import bytes_of
 from issuer_host.start.workers import do_all
 
@@ -31,15 +32,15 @@ def check_history(command: str, name: str, shards: int, accepts: bool) -> None:
     mark = mark_of(name, shards)
     if mark is None:
         return
-    sizes = {} if accepts else mark.sizes()
-    paths = {journal_path(name, shard): sizes.get(shard) for shard in range(shards)}
+    left = {} if accepts else mark.left()
+    paths = {journal_path(name, shard): left.get(shard) for shard in range(shards)}
 
     def check(path: str) -> None:
         check_journal(path, paths[path], accepts)
 
     do_all(list(paths), check, processes_for(list(paths)))
     if command in APPENDING or any(bytes_of(old_journal_path(name, shard)) for shard in range(shards)):
-        mark.may_append()
+        mark.has_begun()
     else:
         mark.has_ended()
     mark.hand_over()
@@ -52,8 +53,8 @@ def processes_for(paths: Sequence[str]) -> int:
     return min(len(paths), len(os.sched_getaffinity(0)))
 
 
-def check_journal(path: str, size: Optional[int], accepts: bool) -> None:
-    checked = check_sealed(path, size, accepts)
+def check_journal(path: str, left: Optional[Left], accepts: bool) -> None:
+    checked = check_sealed(path, left, accepts)
     if checked.torn:
         tell(NAME, f"{checked.torn} bytes of a torn line are at the end of {path}: the start truncates them")
 
@@ -79,7 +80,7 @@ def mark_of(name: str, shards: int) -> Optional[RunMark]:
 
 def is_locked(path: str) -> bool:
     """Whether a program has a journal open."""
-    with open(os.open(path, os.O_RDONLY | os.O_NOFOLLOW | os.O_CLOEXEC), "rb") as opened:
+    with open(open_regular(path, os.O_RDONLY), "rb") as opened:
         try:
             fcntl.flock(opened, fcntl.LOCK_SH | fcntl.LOCK_NB)
         except BlockingIOError:

@@ -1,7 +1,7 @@
 """What a node begins with (deploy/node): NODE.json, positions beside journals, and journals that it truncates."""
 import json
 import os
-from collections.abc import Callable, Sequence
+from collections.abc import Callable, Iterator, Sequence
 from typing import Any, NamedTuple
 
 from checks import Tally, check_of
@@ -15,7 +15,7 @@ from issuer_host.replication import positions
 from issuer_host.replication.journal_files import JournalFiles
 from issuer_host.replication.messages import Barrier, LOGS, NOTES, Record
 from issuer_host.replication.notes import Notes, read_notes
-from runs import PANS, SHARDS, write_text
+from runs import PANS, SHARDS, write_bytes, write_text
 
 BARRIER = Barrier(3, "c0ffee", "m1")
 
@@ -134,6 +134,33 @@ def refuses_a_wrong_position(tally: Tally) -> None:
         for counts, sizes in ((right.counts, (right.sizes[0] + 1, *right.sizes[1:])), ((4,) * LOGS, (999,) * LOGS)):
             positions.write(host.name, right._replace(counts=counts, sizes=sizes))
             tally.holds("hasn't the" in refused(lambda: positions.read(host.name)), f"{sizes[0]} bytes are refused")
+
+
+def flipped(data: bytes) -> Iterator[bytes]:
+    """Returns data with each of its bits changed, one at a time."""
+    for at in range(8 * len(data)):
+        yield data[: at // 8] + bytes([data[at // 8] ^ 1 << at % 8]) + data[at // 8 + 1 :]
+
+
+def refuses_a_position_that_was_changed(tally: Tally) -> None:
+    """Each bit of a position that is changed is found; a position with another count is, even with a right sum."""
+    with new_host(tally) as host:
+        lines = records(host.begun(), 4)
+        right = position_of(host, 3, lines)
+        for less in (-1, 1):
+            positions.write(host.name, right._replace(counts=(right.counts[0] + less, *right.counts[1:])))
+            tally.holds("hasn't the" in refused(lambda: positions.read(host.name)), f"a count greater by {less}")
+        positions.write(host.name, right)
+        path = positions.position_path(host.name)
+        with open(path, "rb") as text:
+            data = text.read()
+        taken = 0
+        for changed in flipped(data.rstrip(b"\n")):
+            write_bytes(host.folder, os.path.basename(path), changed + b"\n")
+            taken += not refused(lambda: positions.read(host.name))
+        tally.expect(taken, 0, f"how many of {8 * len(data) - 8} changed positions are taken")
+        write_text(host.folder, os.path.basename(path), json.dumps(right._asdict()) + "\n")
+        tally.expect(positions.read(host.name), right, "a position that an older release wrote, without a sum")
 
 
 def copies_what_counts(tally: Tally) -> None:
@@ -263,6 +290,7 @@ CHECKS = [
         begins_each_partition_once,
         begins_with_no_old_journal_uncopied,
         refuses_a_wrong_position,
+        refuses_a_position_that_was_changed,
         copies_what_counts,
         only_a_node_appends_to_replicated_journals,
         truncates_what_does_not_count,

@@ -117,8 +117,11 @@ def copies_old_journals(tally: Tally) -> None:
 
 
 def looks_beside_a_host(tally: Tally) -> None:
-    """deploy/look counts the cards beside a host that has the journals open."""
+    """deploy/look counts the cards beside a host that has the journals open, and has records."""
     with new_host(tally) as host, open(host.begun().journal(0), "rb") as held:
+        lines = "".join(f"S {PANS[0]} 00 {number}\n" for number in range(3))
+        tally.expect(host.start(command="serve", more=("--requests", "/dev/stdin"), input=lines).returncode, 0, "a run")
+        tally.expect(host.start().returncode, 0, "a start that seals")
         fcntl.flock(held, fcntl.LOCK_EX)
         figures = os.path.join(host.folder, "figures")
         ran = run(tally, "look", *host.program, *host.files(), "--figures", figures, "--partition", "3")
