@@ -1,0 +1,112 @@
+"""The shape of the package issuer_host: which subpackage imports which, and the names and sizes of its classes."""
+import ast
+import functools
+import os
+from collections.abc import Iterator
+from typing import NamedTuple
+
+from checks import Check, Tally, check_of
+from issuer_host import INSTALLED, OF_SOURCES
+from issuer_host.facts.paths import HOME
+
+PACKAGE = "issuer_host"
+ORDER = (*INSTALLED, *OF_SOURCES)
+MOST_METHODS = 20
+MOST_LINES = 300
+
+
+class ImportedName(NamedTuple):
+    """An import of this package: where it is, and the module that it names."""
+
+    place: str
+    module: str
+
+
+class ClassSize(NamedTuple):
+    """A class, and how large it is."""
+
+    place: str
+    name: str
+    methods: int
+    lines: int
+
+
+class Source(NamedTuple):
+    """A module of the package, parsed."""
+
+    path: str
+    tree: ast.Module
+
+    @property
+    def subpackage(self) -> str:
+        """Returns the folder of the module in the package; nothing for the package's own first file."""
+        parts = self.path.split("/")
+        return parts[1] if len(parts) > 2 else ""
+
+    def imports(self) -> Iterator[ImportedName]:
+        for node in ast.walk(self.tree):
+            if isinstance(node, ast.ImportFrom):
+                module = node.module or ""
+                names = [f"{module}.{alias.name}" for alias in node.names] if module == PACKAGE else [module]
+            elif isinstance(node, ast.Import):
+                names = [alias.name for alias in node.names]
+            else:
+                continue
+            for name in names:
+                if name.split(".")[0] == PACKAGE:
+                    yield ImportedName(f"{self.path}:{node.lineno}", name)
+
+    def classes(self) -> Iterator[ClassSize]:
+        for node in ast.walk(self.tree):
+            if isinstance(node, ast.ClassDef):
+                methods = [one for one in node.body if isinstance(one, (ast.FunctionDef, ast.AsyncFunctionDef))]
+                lines = (node.end_lineno or node.lineno) - node.lineno + 1
+                yield ClassSize(f"{self.path}:{node.lineno}", node.name, len(methods), lines)
+
+
+@functools.cache
+def sources() -> tuple[Source, ...]:
+    """Returns all modules of the package."""
+    found = []
+    for folder, _, names in os.walk(os.path.join(HOME, PACKAGE)):
+        for name in sorted(name for name in names if name.endswith(".py")):
+            path = os.path.join(folder, name)
+            with open(path, encoding="utf-8") as text:
+                found.append(Source(os.path.relpath(path, HOME), ast.parse(text.read())))
+    return tuple(sorted(found, key=lambda source: source.path))
+
+
+def imports_follow_the_order(tally: Tally) -> None:
+    """Each subpackage imports only from itself and from those before it."""
+    rank = {name: place for place, name in enumerate(ORDER)}
+    tally.expect({source.subpackage for source in sources()}, {"", *ORDER}, "the subpackages that there are")
+    for source in sources():
+        for found in source.imports():
+            part = (found.module.split(".") + [""])[1]
+            if not source.subpackage:
+                tally.fail(f"{found.place} imports {found.module}: the package's own first file imports nothing of it")
+            elif rank.get(part, 0) > rank.get(source.subpackage, 0):
+                tally.fail(f"{found.place} imports {found.module}, and {part} comes after {source.subpackage}")
+            else:
+                tally.holds(True, "")
+
+
+def classes_have_names_of_their_own(tally: Tally) -> None:
+    """No two classes of the package have the same name."""
+    places: dict[str, list[str]] = {}
+    for source in sources():
+        for found in source.classes():
+            places.setdefault(found.name, []).append(found.place)
+    for name, at in sorted(places.items()):
+        tally.holds(len(at) == 1, f"{len(at)} classes are named {name}: {', '.join(at)}")
+
+
+def classes_have_one_job(tally: Tally) -> None:
+    """No class has more methods or lines than one job needs."""
+    for source in sources():
+        for place, name, methods, lines in source.classes():
+            tally.holds(methods <= MOST_METHODS, f"{place}: {name} has {methods} methods, {MOST_METHODS} at most")
+            tally.holds(lines <= MOST_LINES, f"{place}: {name} has {lines} lines, {MOST_LINES} at most")
+
+
+CHECKS: list[Check] = [check_of(imports_follow_the_order)]
