@@ -32,11 +32,11 @@ from issuer_host.facts.masks import masked
 from issuer_host.facts.partitions import partition_of
 from issuer_host.facts.request_lines import pan_of_line
 from issuer_host.host.event_loop import new_loop
+from issuer_host.host.retry_policy import PUBLISHER_SECONDS
 from issuer_host.orders.declines import body_of
 
 AGAIN_SECONDS = 15.0
 FULL_SECONDS = 0.5
-HELD_SECONDS = 1.0
 TICK_SECONDS = 0.5
 CLOSE_SECONDS = 2.0
 # So many correlation ids are known for answers that come again.
@@ -211,7 +211,7 @@ class Asker:
             return
         if is_held(text):
             question.held = text
-            self.loop.call_later(HELD_SECONDS, functools.partial(self.publish_again, question))
+            self.loop.call_later(PUBLISHER_SECONDS, functools.partial(self.publish_again, question))
             return
         self.finish(question, text)
 

@@ -7,7 +7,7 @@ from issuer_host.broker import topology
 from issuer_host.broker.connection import Confirm, Link
 from issuer_host.broker.refusing_queues import DeafQueues
 from issuer_host.broker.reply_mac import ReplyMacs
-from issuer_host.broker.unacknowledged import Flight
+from issuer_host.broker.unacknowledged import Delivered, Flight
 from issuer_host.facts.refusal import tell
 from issuer_host.host.event_loop import Loop
 from issuer_host.host.lines import Entry
@@ -52,7 +52,7 @@ class Replying:
         self.flight = Flight()
         self.deaf = DeafQueues()
 
-    def settle(self, entry: Entry, is_acknowledged: bool) -> None:
+    def settle(self, entry: Delivered, is_acknowledged: bool) -> None:
         channel = self.link.channel
         if channel:
             self.flight.settle(entry, is_acknowledged, channel)
@@ -62,17 +62,22 @@ class Replying:
         """Whether an entry is still this connection's to answer."""
         return self.link.channel is not None and entry in self.flight
 
+    def drop(self, entry: Entry) -> None:
+        """No answer to a request comes any more: the broker delivers it again."""
+
     def send(self, entry: Entry, text: str, tries: int = TRIES) -> None:
         """Sends an answer. One that nobody takes is dropped: it is recorded, and asked again it is `kept`."""
-        if not self.is_current(entry):
+        if not isinstance(entry, Delivered) or not self.is_current(entry):
             return
+        self.publish(entry, text, tries)
 
+    def publish(self, entry: Delivered, text: str, tries: int) -> None:
         def confirmed(how: Confirm) -> None:
             if how is Confirm.NACKED and tries > 1 and not self.deaf.has(entry.reply_to):
                 self.loop.call_later(AGAIN_SECONDS, lambda: self.send(entry, text, tries - 1))
                 return
             if how is Confirm.NACKED:
-                self.drop(entry)
+                self.drop_answer(entry)
             if how is Confirm.RETURNED:
                 self.figures.answer_returned()
             self.figures.answered(text, time.monotonic() - entry.began)
@@ -81,7 +86,7 @@ class Replying:
         body = self.macs.sealed(entry.correlation, entry.line, text)
         self.link.publish(topology.REPLIES, entry.reply_to, body, entry.correlation, confirmed)
 
-    def drop(self, entry: Entry) -> None:
+    def drop_answer(self, entry: Delivered) -> None:
         """Drops an answer that its reply queue refuses."""
         if not self.deaf.has(entry.reply_to):
             tell(self.name, f"a reply queue refused an answer: {str(entry.reply_to)[:80]!r}")

@@ -1,14 +1,28 @@
 """The requests that the broker delivered and that aren't acknowledged, in the order of delivery."""
 import collections
-from typing import NamedTuple
+from typing import NamedTuple, Optional
 
 from issuer_host.broker.types import Channel, Delivery, Properties
 from issuer_host.host.lines import Entry
 
 
-def entry_of(delivery: Delivery, properties: Properties, line: bytes) -> Entry:
+class Delivered(Entry):
+    """A request that a message brought."""
+
+    __slots__ = ("tag", "reply_to", "correlation", "settled")
+
+    def __init__(self, tag: int, line: bytes, reply_to: str, correlation: str) -> None:
+        super().__init__(line)
+        self.tag = tag
+        self.reply_to = reply_to
+        self.correlation = correlation
+        # None until it may be acknowledged (True) or rejected (False).
+        self.settled: Optional[bool] = None
+
+
+def entry_of(delivery: Delivery, properties: Properties, line: bytes) -> Delivered:
     """Returns the request that a message brought."""
-    return Entry(delivery.delivery_tag, line, properties.reply_to or "", properties.correlation_id)
+    return Delivered(delivery.delivery_tag, line, properties.reply_to or "", properties.correlation_id)
 
 
 class Settlement(NamedTuple):
@@ -22,15 +36,15 @@ class Flight:
     """The requests in flight. What is delivered again is always all from some request on."""
 
     def __init__(self) -> None:
-        self.entries: collections.deque[Entry] = collections.deque()
+        self.entries: collections.deque[Delivered] = collections.deque()
 
     def __len__(self) -> int:
         return len(self.entries)
 
-    def __contains__(self, entry: Entry) -> bool:
+    def __contains__(self, entry: object) -> bool:
         return entry in self.entries
 
-    def add(self, entry: Entry) -> None:
+    def add(self, entry: Delivered) -> None:
         self.entries.append(entry)
 
     def clear(self) -> None:
@@ -40,7 +54,7 @@ class Flight:
         """Returns how old the oldest request is, or 0."""
         return now - self.entries[0].began if self.entries else 0.0
 
-    def settle(self, entry: Entry, is_acknowledged: bool, channel: Channel) -> None:
+    def settle(self, entry: Delivered, is_acknowledged: bool, channel: Channel) -> None:
         """Settles a request, and tells the broker of those that are settled with all before them."""
         entry.settled = is_acknowledged
         for settlement in self.settlements():

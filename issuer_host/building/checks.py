@@ -8,6 +8,7 @@ WITHOUT_PROGRAM = (
     "tests/program/card",
     "tests/program/configuration_check",
     "tests/machines/replication --short",
+    "tests/host/lifecycle",
     "tests/machines/availability",
     "tests/gateway/admission",
     "tests/pages/definitions --check",

@@ -25,7 +25,6 @@ It ends with 0 at SIGTERM, and with the host's status if a new start would end i
 64 its words, or those that it gives the host, are no command. With 75 something failed that passes: start it again.
 """
 import argparse
-import os
 import signal
 import sys
 import time
@@ -38,16 +37,16 @@ from issuer_host.broker.replies import Replying
 from issuer_host.broker.reply_mac import ReplyMacs
 from issuer_host.broker.types import Callback, Channel, Delivery, Properties, Step
 from issuer_host.broker.unacknowledged import entry_of
-from issuer_host.facts.paths import HOME
 from issuer_host.facts.refusal import Refusal, tell
 from issuer_host.facts.statuses import Status
+from issuer_host.host.command import serving_command
 from issuer_host.host.event_loop import new_loop
-from issuer_host.orders.partition_host import Outside, Serving
+from issuer_host.host.line_host import HostSettings
+from issuer_host.orders.partition_host import Serving
 from issuer_host.telling.figures import Figures, kinds_at
 from issuer_host.telling.service_manager import Readiness, notify
 
 NAME = "bridge"
-CAREFUL_START = os.path.join(HOME, "deploy", "issuer-run")
 TICK_SECONDS = 1.0
 STOP_SECONDS = 5.0
 
@@ -89,13 +88,6 @@ def refuse_words(message: str) -> NoReturn:
     sys.exit(Status.USAGE)
 
 
-def command_of(options: Options) -> list[str]:
-    """Returns the command that starts the host."""
-    begin = [CAREFUL_START, *(["--program", options.program] if options.program else [])]
-    files = ["--config", options.config, "--requests", "/dev/stdin", "--journal", options.journal]
-    return [*begin, "serve", *files, "--callers", str(options.callers)]
-
-
 class Bridge:
     """Between the broker's queue and the partition's host."""
 
@@ -110,11 +102,9 @@ class Bridge:
         macs = ReplyMacs(options.broker_file)
         self.replying = Replying(self.loop, self.link, macs, self.figures, self.end_if_idle, NAME)
         self.flight = self.replying.flight
-        outside = Outside(
-            self.replying.send, self.replying.is_current, self.host_is_ready, self.end_if_idle, self.give_up
-        )
-        command = command_of(options)
-        self.serving = Serving(self.loop, command, options.journal, self.figures, options.orders or "", outside)
+        command = serving_command(options.config, options.journal, options.callers, options.program or "")
+        settings = HostSettings(command, options.journal, NAME, orders=options.orders or "")
+        self.serving = Serving(self.loop, settings, self.figures, self.replying, self)
         self.readiness = Readiness(NAME)
         self.is_stopping = False
         # Whether another bridge is the first one, or consumed before this one.
@@ -129,7 +119,7 @@ class Bridge:
         self.serving.begin()
         self.tick()
         self.loop.start()
-        self.serving.stop()
+        self.serving.end()
         return self.status
 
     # The broker's side
@@ -176,14 +166,25 @@ class Bridge:
             self.figures.bodies.inc()
             self.replying.settle(entry, False)
 
-    # Time, and the end
+    # What the host calls
 
     def host_is_ready(self) -> None:
         self.readiness.tell()
 
+    def host_is_idle(self) -> None:
+        self.end_if_idle()
+
+    def host_ended(self) -> None:
+        """The next one gets what wasn't answered."""
+
+    def why_no_order(self) -> str:
+        return ""
+
+    # Time, and the end
+
     def tick(self) -> None:
         now = time.monotonic()
-        state = "the host runs" if self.serving.hosting.host else "standby"
+        state = "the host runs" if self.serving.hosting.is_running else "standby"
         self.readiness.look(f"{len(self.flight)} in flight, {state}")
         self.figures.in_flight.set(len(self.flight))
         self.figures.oldest.set(self.flight.age(now))

@@ -8,14 +8,17 @@ import asyncio
 import collections
 import math
 import threading
+import time
 from collections.abc import Callable
 from typing import Optional
 
 from issuer_host.broker.publisher import Asker, Question as Published
 from issuer_host.broker.types import Channel, Delivery, Properties
+from issuer_host.facts.answers import kind_of
 from issuer_host.gateway.figures import Figures
 from issuer_host.gateway.log import Limited, tell
 from issuer_host.gateway.traffic import Question, Traffic
+from issuer_host.host.retry_policy import RetryPolicy
 
 END_SECONDS = 2.0
 
@@ -41,7 +44,7 @@ class LiveAsker(Asker):
         """Lines come by `begin` alone."""
 
     def begin(self, question: Question) -> None:
-        found = Published(question.number, question.line.line, question.partition)
+        found = Published(question.number, question.request.line, question.partition)
         self.asked[found.correlation] = found
         self.connection.published[question.number] = found.correlation
         if self.link.channel:
@@ -74,6 +77,8 @@ class Connection:
         self, loop: asyncio.AbstractEventLoop, partitions: int, broker_file: str, traffic: Traffic, figures: Figures
     ) -> None:
         self.loop, self.traffic, self.figures = loop, traffic, figures
+        # Whether the disks of the bridges take records, by their answers.
+        self.policies = [RetryPolicy() for _ in range(partitions)]
         # Lines at the broker: the gateway's own, and in the thread their correlation ids.
         self.asked: dict[int, Question] = {}
         self.published: dict[int, str] = {}
@@ -133,6 +138,7 @@ class Connection:
             number, text = self.came.popleft()
             question = self.asked.pop(number, None)
             if question is not None:
+                self.policies[question.partition].note(kind_of(text), time.monotonic())
                 self.traffic.answered(question, text)
 
     def stop(self) -> None:
@@ -148,14 +154,18 @@ class BrokeredHost:
     """A partition behind the broker."""
 
     refusal: Optional[int] = None
-    has_given_up = False
 
-    def __init__(self, connection: Connection) -> None:
-        self.connection = connection
+    def __init__(self, connection: Connection, partition: int) -> None:
+        self.connection, self.partition = connection, partition
         self.tried, self.ended = connection.tried, connection.ended
 
     def start(self) -> None:
         self.connection.start()
+
+    def takes(self, question: Question) -> bool:
+        """Whether a line is put: rarely where the bridge's disk takes no record."""
+        policy = self.connection.policies[self.partition]
+        return question.request.is_repeat or policy.may_try(time.monotonic())
 
     def put(self, question: Question) -> None:
         self.connection.begin(question)
@@ -169,10 +179,13 @@ class BrokeredHost:
     def stop(self) -> None:
         self.connection.stop()
 
+    def end(self) -> None:
+        """The bridges end their hosts."""
+
 
 def brokered_hosts(
     loop: asyncio.AbstractEventLoop, partitions: int, broker_file: str, traffic: Traffic, figures: Figures
 ) -> list[BrokeredHost]:
     """A host for each partition, all by one connection."""
     connection = Connection(loop, partitions, broker_file, traffic, figures)
-    return [BrokeredHost(connection) for _ in range(partitions)]
+    return [BrokeredHost(connection, number) for number in range(partitions)]

@@ -44,8 +44,8 @@ class Owner(Protocol):
     def has_room(self, connection: "Connection") -> bool:
         """Whether one more message may be in flight. If not, the connection is told when it may."""
 
-    def ask(self, line: RequestLine, then: Callable[[Optional[str]], None]) -> None:
-        """Asks a host."""
+    def ask(self, line: RequestLine, source: object, began: float, then: Callable[[Optional[str]], None]) -> None:
+        """Asks a host. The message's time limit began when its last byte had arrived."""
 
 
 class Connection(asyncio.BufferedProtocol):
@@ -138,7 +138,8 @@ class Connection(asyncio.BufferedProtocol):
             self.transport.resume_reading()
 
     def handle(self, data: bytes) -> None:
-        began = self.loop.time()
+        # (all that the buffer has came with the last bytes or before: a connection that is paused reads none)
+        began = self.heard
         try:
             message = self.codec.unpack(data)
         except Unreadable as fault:
@@ -180,7 +181,7 @@ class Connection(asyncio.BufferedProtocol):
 
         self.in_flight += 1
         self.owner.figures.in_flight += 1
-        self.owner.ask(line, answered)
+        self.owner.ask(line, self, began, answered)
 
     def flag(self, answer: str, pan: str) -> None:
         """Tells of an answer for which somebody has to look at the card, or at the configuration."""

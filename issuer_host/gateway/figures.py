@@ -4,12 +4,14 @@ Figures of hosts that the gateway starts itself have the names that a bridge's h
 """
 
 import os
+import time
 from collections.abc import Iterator, Mapping
 from typing import Callable, NamedTuple, Optional, Union
 
-from issuer_host.facts.answers import DECISIONS, Kind, REFUSED
+from issuer_host.facts.answers import DECISIONS, Kind, REFUSED, kind_of
 from issuer_host.facts.journals import journals_of
 from issuer_host.gateway.admission import REASONS
+from issuer_host.gateway.log import tell
 from issuer_host.gateway.mapping import REFUSALS
 
 SECONDS = (0.001, 0.002, 0.005, 0.01, 0.02, 0.05, 0.1, 0.2, 0.5, 1, 2, 5, 10, 30)
@@ -38,6 +40,11 @@ OF_HOSTS = {
     "host_starts": ("counter", "Starts of the host"),
     "host_ends": ("counter", "Ends of the host by status; a signal is negative"),
     "active": ("gauge", "1 if the partition's host answers"),
+    "host_start_seconds": ("gauge", "From the host's last start to its first answer"),
+    "host_ready_time_seconds": ("gauge", "When the host gave its first answer, in seconds of Unix"),
+    "orders": ("counter", "Lines of orders by what became of them"),
+    "account_declines": ("counter", "Requests that came with an account's decline"),
+    "cards_restoring": ("gauge", "Cards that wait for the status of before an account's decline"),
     "lines_in_flight": ("gauge", "Lines that have no answer yet"),
     "oldest_line_seconds": ("gauge", "Age of the oldest line in flight"),
     "journal_bytes": ("gauge", "Bytes of the partition's journals"),
@@ -83,6 +90,9 @@ class Figures:
 
     def answered(self, partition: int, kind: Kind) -> None:
         self.count("answers", *labels_of(partition, kind))
+
+    def of_host(self, partition: int, journal: str) -> "PartitionFigures":
+        return PartitionFigures(self, partition, journal)
 
     def responded(self, code: str, seconds: float) -> None:
         self.count("responses", ("code", code))
@@ -140,6 +150,44 @@ def disk_of(journal: str) -> Optional[Disk]:
         return Disk(sum(map(os.path.getsize, journals_of(journal))), found.f_bavail * found.f_frsize)
     except OSError:
         return None
+
+
+class PartitionFigures:
+    """What a partition's host and its work come to, in the figures of the gateway."""
+
+    def __init__(self, figures: Figures, partition: int, journal: str) -> None:
+        self.figures, self.partition, self.journal = figures, partition, journal
+        self.name = ("partition", str(partition))
+
+    def started(self) -> None:
+        self.figures.count("host_starts", self.name)
+
+    def loaded(self, seconds: float) -> None:
+        self.figures.host_up[self.partition] = 1
+        self.figures.set("host_start_seconds", self.partition, round(seconds, 3))
+        self.figures.set("host_ready_time_seconds", self.partition, round(time.time(), 3))
+        tell(f"partition {self.partition}: the host is ready after {seconds:.2f} s")
+
+    def ended(self, status: int) -> None:
+        self.figures.host_up[self.partition] = 0
+        self.figures.count("host_ends", self.name, ("status", str(status)))
+
+    def answered(self, answer: str, seconds: Optional[float]) -> None:
+        """A line was answered; without a time it is put again."""
+        self.figures.answered(self.partition, kind_of(answer))
+        self.figures.retries += seconds is None
+
+    def ordered(self, kind: str) -> None:
+        self.figures.count("orders", self.name, ("kind", kind))
+
+    def declined(self) -> None:
+        self.figures.count("account_declines", self.name)
+
+    def cards_restoring(self, count: int) -> None:
+        self.figures.set("cards_restoring", self.partition, count)
+
+    def look_at_disk(self) -> None:
+        """Whoever asks for figures has the disk measured, in a thread of its own."""
 
 
 def of_partition(partition: int) -> Labels:

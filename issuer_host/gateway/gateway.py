@@ -19,6 +19,7 @@ from issuer_host.gateway.log import Limited, NAME, tell
 from issuer_host.gateway.message import Codec
 from issuer_host.gateway.port import Port
 from issuer_host.gateway.requests import RequestLine
+from issuer_host.gateway.shares import shares_of
 from issuer_host.gateway.traffic import Host, Traffic
 from issuer_host.telling import service_manager
 from issuer_host.telling.figures_server import FiguresServer
@@ -79,6 +80,9 @@ class Partition(Host, Protocol):
     def stop(self) -> None:
         """Ends in order."""
 
+    def end(self) -> None:
+        """Kills what hasn't ended in time."""
+
 
 class Gateway:
     """All of it."""
@@ -133,14 +137,14 @@ class Gateway:
         self.waiting[connection] = None
         return False
 
-    def ask(self, line: RequestLine, then: Callable[[Optional[str]], None]) -> None:
+    def ask(self, line: RequestLine, source: object, began: float, then: Callable[[Optional[str]], None]) -> None:
         def answered(answer: Optional[str]) -> None:
             then(answer)
             if self.waiting and not self.is_resuming:
                 self.is_resuming = True
                 self.loop.call_soon(self.resume)
 
-        self.traffic.ask(line, answered)
+        self.traffic.ask(line, source, began, answered)
 
     def resume(self) -> None:
         """Lets connections that wait take messages, in their order, while there is room."""
@@ -171,7 +175,7 @@ class Gateway:
 
     async def start_hosts(self) -> None:
         """Starts all hosts, and waits until each is ready or has ended. A SIGTERM ends the wait."""
-        self.traffic.hosts = self.hosts
+        self.traffic.begin(self.hosts, shares_of(self.limits.in_flight, self.limits.of_connection))
         for host in self.hosts:
             host.start()
         stopped = self.loop.create_task(self.stopped.wait())
@@ -244,6 +248,8 @@ class Gateway:
         for host in self.hosts:
             host.stop()
         await asyncio.wait([host.ended for host in self.hosts], timeout=END_SECONDS)
+        for host in self.hosts:
+            host.end()
 
 
 def raise_file_limit(bounds: Bounds) -> None:

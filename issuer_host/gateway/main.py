@@ -31,9 +31,11 @@ from issuer_host.facts.refusal import Refusal
 from issuer_host.facts.statuses import Status
 from issuer_host.gateway import options as options_of
 from issuer_host.gateway.gateway import Gateway, Partition
-from issuer_host.gateway.log import tell
+from issuer_host.gateway.log import NAME, tell
 from issuer_host.gateway.options import BadOptions
-from issuer_host.gateway.pipes import PipeHost, command_of
+from issuer_host.gateway.pipes import PipeHost
+from issuer_host.host.command import serving_command
+from issuer_host.host.line_host import HostSettings
 
 
 def main(words: Sequence[str]) -> int:
@@ -78,7 +80,9 @@ def pipe_hosts(gateway: Gateway, options: argparse.Namespace) -> list[Partition]
     """A host by pipes for each partition."""
     found: list[Partition] = []
     for number, (config, journal) in enumerate(options_of.partition_files(options)):
-        command = command_of(config, journal, options.callers, options.program)
+        command = serving_command(config, journal, options.callers, options.program or "")
+        name = f"{NAME}: partition {number}"
         gateway.journals.append(journal)
-        found.append(PipeHost(gateway.loop, number, command, journal, options.window, gateway.traffic, gateway.figures))
+        settings = HostSettings(command, journal, name, options.window, is_batched=True)
+        found.append(PipeHost(gateway.loop, settings, gateway.traffic, gateway.figures.of_host(number, journal)))
     return found

@@ -162,6 +162,11 @@ def what_to_do(kind: str) -> str:
     return DECLINE
 
 
+def is_repeat(kind: str) -> bool:
+    """Whether a message of a type is marked as a repeat, as 0101."""
+    return int(kind[3]) % 2 == 1
+
+
 def response_type(kind: str) -> str:
     """The type of a message's response: that of 0100 and of its repeat 0101 is 0110."""
     function, origin = int(kind[2]) + 1, kind[3]

@@ -25,6 +25,8 @@ class RequestLine(NamedTuple):
 
     line: str
     pan: str
+    # Whether the message is marked as a repeat of one that was sent before.
+    is_repeat: bool = False
 
 
 class Settled(NamedTuple):
@@ -57,7 +59,7 @@ def line_of(dialect: Dialect, message: Message, today: datetime.date) -> Union[R
     if len(data) > MAX_CHIP_DATA:
         return Settled(mapping.BAD_FORMAT, f"its chip data have {len(data)} bytes, and {MAX_CHIP_DATA} are the most")
     pan = of_chip[TAG_PAN] if TAG_PAN in of_chip else of_message[TAG_PAN]
-    return RequestLine(f"A {data.hex()}", pan.hex().rstrip("f"))
+    return RequestLine(f"A {data.hex()}", pan.hex().rstrip("f"), mapping.is_repeat(message.kind))
 
 
 def first_objects(chip: bytes) -> dict[str, bytes]:

@@ -2,40 +2,49 @@
 
 Several callers of a host may decide two lines of one card in either order. Then a card's next line waits here for the
 answer to its last one. A host with one caller keeps the order by itself.
+
+A partition that gives no answer for a second has its share in flight, and what is above is answered at once: so lines
+that wait for one partition leave room for those of the others.
 """
 
 import asyncio
+import heapq
 from collections.abc import Callable, Sequence
 from typing import Optional, Protocol
 
 from issuer_host.facts import answers
-from issuer_host.facts.answers import Refusal
 from issuer_host.facts.partitions import partition_of
 from issuer_host.gateway.figures import Figures
 from issuer_host.gateway.requests import RequestLine
+from issuer_host.gateway.shares import PartitionLoad, Shares
+from issuer_host.host.lines import Entry
 
-# How long a line is held that a host refused for now.
-HOLD_SECONDS = {str(int(Refusal.PENDING)): 0.02, str(int(Refusal.STORE_FAULT)): 0.25}
 
-
-class Question:
+class Question(Entry):
     """A line in flight. `then` is called once: with the answer, or with None if there was none in time."""
 
-    __slots__ = ("number", "line", "partition", "began", "then", "is_over")
+    __slots__ = ("number", "request", "partition", "source", "then")
 
     def __init__(
-        self, number: int, line: RequestLine, partition: int, began: float, then: Callable[[Optional[str]], None]
+        self,
+        number: int,
+        request: RequestLine,
+        partition: int,
+        source: object,
+        began: float,
+        then: Callable[[Optional[str]], None],
     ) -> None:
-        self.number, self.line, self.partition, self.began, self.then = number, line, partition, began, then
-        self.is_over = False
+        """`source` is the connection that asks, and `began` when the message's last byte had arrived."""
+        super().__init__(request.line.encode("ascii"), began)
+        self.number, self.request, self.partition, self.source = number, request, partition, source
+        self.then = then
 
 
 class Host(Protocol):
     """Where a partition's lines go. It calls `answered` or `forgotten` of the traffic once for each that it takes."""
 
-    @property
-    def has_given_up(self) -> bool:
-        """Whether no line will be answered until a person has acted."""
+    def takes(self, question: Question) -> bool:
+        """Whether a line is put. If not, it is answered at once."""
 
     def put(self, question: Question) -> None:
         """Takes a line."""
@@ -51,88 +60,106 @@ class Traffic:
         """`is_ordered`: whether the hosts keep the order of a card's lines by themselves."""
         self.loop, self.seconds, self.is_ordered, self.figures = loop, seconds, is_ordered, figures
         self.hosts: Sequence[Host] = ()
+        self.loads: list[PartitionLoad] = []
+        self.shares = Shares()
         self.number = 0
-        # In the order in which they began.
+        # In the order in which they were asked; and when the time of each is over, also of those that were answered.
         self.open: dict[int, Question] = {}
+        self.ends: list[tuple[float, int]] = []
         # Of each card the line at the host, and those that wait for it.
         self.cards: dict[str, dict[int, Question]] = {}
 
-    def ask(self, line: RequestLine, then: Callable[[Optional[str]], None]) -> None:
+    def begin(self, hosts: Sequence[Host], shares: Shares) -> None:
+        """The hosts of all partitions, and how many lines of one may be in flight that gives no answer."""
+        self.hosts, self.shares = hosts, shares
+        self.loads = [PartitionLoad() for _ in hosts]
+
+    def ask(self, request: RequestLine, source: object, began: float, then: Callable[[Optional[str]], None]) -> None:
         self.number += 1
-        partition = partition_of(line.pan, len(self.hosts))
-        question = Question(self.number, line, partition, self.loop.time(), then)
-        if self.hosts[partition].has_given_up:
+        now, partition = self.loop.time(), partition_of(request.pan, len(self.hosts))
+        question = Question(self.number, request, partition, source, began, then)
+        load = self.loads[partition]
+        if self.is_above(load, source) or not self.hosts[partition].takes(question):
             question.is_over = True
             then(None)
             return
+        load.add(source, now)
         self.open[question.number] = question
+        heapq.heappush(self.ends, (began + self.seconds, question.number))
         if self.is_first(question):
             self.hosts[partition].put(question)
+
+    def is_above(self, load: PartitionLoad, source: object) -> bool:
+        """Whether a partition that gives no answer has its share in flight, of a connection or in all."""
+        has_others = len(self.hosts) > 1
+        return has_others and self.shares.are_full(load, source) and load.is_stalled(self.loop.time())
 
     def is_first(self, question: Question) -> bool:
         """Whether a line may go to its host: no other one of its card is there, or it doesn't matter."""
         if self.is_ordered:
             return True
-        queue = self.cards.setdefault(question.line.pan, {})
+        queue = self.cards.setdefault(question.request.pan, {})
         queue[question.number] = question
         return len(queue) == 1
 
     def answered(self, question: Question, text: str) -> None:
-        """A host's answer. Where nothing was recorded the line is put again after a moment, while there is time."""
-        kind = answers.kind_of(text)
-        self.figures.answered(question.partition, kind)
+        """A host's answer."""
+        self.loads[question.partition].answered(self.loop.time())
+        self.figures.answered(question.partition, answers.kind_of(text))
         if question.is_over:
             self.figures.late += 1
-        elif kind.refusal in HOLD_SECONDS:
-            self.figures.retries += 1
-            self.loop.call_later(HOLD_SECONDS[kind.refusal], self.put_again, question)
-            return
         else:
             self.end(question, text)
         self.forgotten(question)
-
-    def put_again(self, question: Question) -> None:
-        if question.is_over:
-            self.forgotten(question)
-        else:
-            self.hosts[question.partition].put(question)
 
     def forgotten(self, question: Question) -> None:
         """No answer to this line will come any more: the card's next one goes."""
         if self.is_ordered:
             return
-        queue = self.cards.get(question.line.pan, {})
+        queue = self.cards.get(question.request.pan, {})
         queue.pop(question.number, None)
         if queue:
             following = next(iter(queue.values()))
             self.hosts[following.partition].put(following)
         else:
-            self.cards.pop(question.line.pan, None)
+            self.cards.pop(question.request.pan, None)
 
     def end(self, question: Question, text: Optional[str]) -> None:
         question.is_over = True
         del self.open[question.number]
+        self.loads[question.partition].remove(question.source)
         question.then(text)
 
+    # Time
+
     def expire(self) -> None:
-        """Ends the lines whose time is over, and those whose host has given up."""
+        """Ends the lines whose time is over, and those above the share of a partition that gives no answer."""
         now = self.loop.time()
-        over = []
-        for question in self.open.values():
-            if now - question.began < self.seconds:
-                break
-            over.append(question)
-        for question in over:
-            self.figures.expired += 1
-            self.give_up(question)
+        while self.ends and self.ends[0][0] <= now:
+            question = self.open.get(heapq.heappop(self.ends)[1])
+            if question is not None:
+                self.figures.expired += 1
+                self.give_up(question)
+        for partition, load in enumerate(self.loads):
+            if len(self.loads) > 1 and self.shares.may_be_above(load) and load.is_stalled(now):
+                self.shed(partition)
+
+    def shed(self, partition: int) -> None:
+        """Ends the last lines of a partition above its shares."""
+        load = self.loads[partition]
+        for question in [it for it in reversed(self.open.values()) if it.partition == partition]:
+            if self.shares.are_above(load, question.source):
+                self.give_up(question)
 
     def give_up_partition(self, partition: int) -> None:
         for question in [it for it in self.open.values() if it.partition == partition]:
             self.give_up(question)
 
     def give_up(self, question: Question) -> None:
+        if question.is_over:
+            return
         self.end(question, None)
-        queue = self.cards.get(question.line.pan, {})
+        queue = self.cards.get(question.request.pan, {})
         if self.is_ordered or next(iter(queue), None) == question.number:
             self.hosts[question.partition].withdraw(question)
         else:

@@ -1,4 +1,4 @@
-"""The lines that a host gets: a request in flight, or a line that no message has."""
+"""The lines that a host gets: a request, or a line that no message has."""
 import time
 from collections.abc import Callable
 from typing import Optional
@@ -15,15 +15,12 @@ class Line:
 
 
 class Entry:
-    """A request in flight."""
+    """A request. It is put to one host after another until it is answered, or nobody waits for the answer any more."""
 
-    __slots__ = ("tag", "line", "reply_to", "correlation", "began", "settled")
+    __slots__ = ("line", "began", "is_over")
 
-    def __init__(self, tag: int, line: bytes, reply_to: str, correlation: str) -> None:
-        self.tag = tag
+    def __init__(self, line: bytes, began: Optional[float] = None) -> None:
         self.line = line
-        self.reply_to = reply_to
-        self.correlation = correlation
-        self.began = time.monotonic()
-        # None until it may be acknowledged (True) or rejected (False).
-        self.settled: Optional[bool] = None
+        self.began = time.monotonic() if began is None else began
+        # Whether nobody waits for the answer any more.
+        self.is_over = False

@@ -1,14 +1,11 @@
 """Runs of the program over journals that no host serves, each by issuer-run."""
-import os
 import subprocess
 from collections.abc import Iterable, Sequence
 from typing import Optional
 
-from issuer_host.facts.paths import HOME
 from issuer_host.facts.show_lines import ShownCard, cards_of
 from issuer_host.facts.statuses import meaning_of
-
-CAREFUL_START = os.path.join(HOME, "deploy", "issuer-run")
+from issuer_host.host.command import command_of
 
 Card = tuple[str, str]
 
@@ -33,8 +30,7 @@ def run(
 
     `program` is another one than the proved one, and `given` is what it reads from its input.
     """
-    command = [CAREFUL_START, *["--begin"] * begins, *(["--program", program] if program else [])]
-    command += [words[0], "--config", config, "--journal", journal, *words[1:]]
+    command = command_of(words[0], config, journal, *words[1:], program=program or "", begin="--begin" * begins)
     done = subprocess.run(command, input=given, capture_output=True, text=True, check=False)
     if done.returncode:
         last = done.stdout.strip().rpartition("\n")[2]

@@ -1,33 +1,59 @@
-"""Which lines are held for a moment and put again, as nothing was recorded for them, and for how long."""
+"""Which lines are held for a moment and put again, as nothing was recorded for them, and for how long.
+
+This is the one place of these times, for bridges, nodes, the gateway, orders, declines and publishers.
+"""
 import time
 from typing import Optional
 
-from issuer_host.facts.answers import FRESH, Refusal, is_held, kind_of
-from issuer_host.host.lines import Entry
+from issuer_host.facts.answers import FRESH, Kind, QUEUED, Refusal, SET, is_held, kind_of
 
 # How long a line is held before it is put again, by the refusal's number.
 FULL = str(int(Refusal.STORE_FAULT))
 HOLD_SECONDS = {str(int(Refusal.PENDING)): 0.02, FULL: 0.5}
-# A line that was delivered so long ago isn't held any more: its publisher asks again. While the journals take no
-# record for so long, no line is: each gets its refusal at once, so that those behind it are answered.
+# A line that came so long ago isn't held any more: whoever sent it asks again. While the journals take no record for so
+# long, no line is: each gets its refusal at once, so that those behind it are answered.
 LIMIT_SECONDS = 2.0
+# While the journals take no record for so long, new lines aren't put at all, but for one try in each such time.
+TRY_SECONDS = 1.0
+# A publisher asks again after so long.
+PUBLISHER_SECONDS = 1.0
+# These answers say that the journals took a record.
+TAKEN = (FRESH, QUEUED, SET)
 
 
-class Holding:
+class RetryPolicy:
+    """What is held of a partition's lines."""
+
     def __init__(self) -> None:
         # Since when the journals take no record; None if they do.
         self.full_since: Optional[float] = None
+        self.tried_at = 0.0
 
-    def seconds_of(self, entry: Entry, answer: str) -> Optional[float]:
-        """Returns how long to hold a line with this answer, or None if the answer is sent."""
-        kind = kind_of(answer)
-        now = time.monotonic()
-        if kind.word == FRESH:
+    def note(self, kind: Kind, now: float) -> None:
+        """An answer came: it may say that the journals take records, or don't."""
+        if kind.word in TAKEN:
             self.full_since = None
+        elif kind.refusal == FULL and self.full_since is None:
+            self.full_since = self.tried_at = now
+
+    def seconds_of(self, answer: str, began: float, is_lasting: bool = False) -> Optional[float]:
+        """Returns how long to hold a line with this answer, or None if the answer is sent.
+
+        `began`: when the line came. A lasting line is held until it is recorded.
+        """
+        kind, now = kind_of(answer), time.monotonic()
+        self.note(kind, now)
         if not is_held(answer):
             return None
-        began = entry.began
-        if kind.refusal == FULL:
-            self.full_since = self.full_since or now
+        if kind.refusal == FULL and self.full_since is not None:
             began = min(began, self.full_since)
-        return None if now - began > LIMIT_SECONDS else HOLD_SECONDS[kind.refusal]
+        return HOLD_SECONDS[kind.refusal] if is_lasting or now - began <= LIMIT_SECONDS else None
+
+    def may_try(self, now: float) -> bool:
+        """Whether a new line may be put: not while the journals take no record, but for a try each second."""
+        if self.full_since is None or now - self.full_since <= TRY_SECONDS:
+            return True
+        if now - self.tried_at < TRY_SECONDS:
+            return False
+        self.tried_at = now
+        return True

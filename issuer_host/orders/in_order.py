@@ -12,19 +12,16 @@ import time
 from collections.abc import Callable, Generator
 from typing import NamedTuple, Optional, Union
 
-from issuer_host.facts.answers import RECORDED, is_held, kind_of
+from issuer_host.facts.answers import RECORDED, kind_of
 from issuer_host.facts.masks import name_of_card
 from issuer_host.facts.refusal import tell
 from issuer_host.facts.request_lines import pan_of_line
 from issuer_host.files.card_records import CardRecords
 from issuer_host.host.event_loop import Loop
+from issuer_host.host.line_host import LineHost
 from issuer_host.host.lines import Entry, Line
-from issuer_host.host.supervisor import Hosting
+from issuer_host.host.retry_policy import RetryPolicy
 from issuer_host.orders.intent_log import Begun, WorkFile, restoring_line
-
-# A line that the disk takes no record for is put again after so long, and for so long, unless it has to be recorded.
-AGAIN_SECONDS = 0.1
-LIMIT_SECONDS = 2.0
 
 
 class Put(NamedTuple):
@@ -103,14 +100,16 @@ class CardWorks:
     def __init__(
         self,
         loop: Loop,
-        hosting: Hosting,
+        hosting: LineHost,
         file: WorkFile,
+        retries: RetryPolicy,
         on_answer: Callable[[Work, str, str], object],
         on_idle: Callable[[], object],
     ) -> None:
         self.loop = loop
         self.hosting = hosting
         self.file = file
+        self.retries = retries
         self.on_answer = on_answer
         self.on_idle = on_idle
         # By PAN: the work on a card, then what waits for it, in order.
@@ -200,11 +199,11 @@ class CardWorks:
         running.line = None
         self.on_answer(running.work, running.put.text, text)
         self.note(running.put.text, text)
-        is_late = time.monotonic() - running.began > LIMIT_SECONDS
-        if is_held(text) and (running.put.is_lasting or not is_late):
-            self.loop.call_later(AGAIN_SECONDS, lambda: self.put(running))
-            return
-        self.go_on(running, text)
+        seconds = self.retries.seconds_of(text, running.began, running.put.is_lasting)
+        if seconds is None:
+            self.go_on(running, text)
+        else:
+            self.loop.call_later(seconds, lambda: self.put(running))
 
     def note(self, line: str, answer: str) -> None:
         """Notes what was recorded."""

@@ -1,15 +1,15 @@
 """A partition's host with all that is put to it: requests, accounts' declines and orders. It knows no broker."""
-import time
-from collections.abc import Callable, Sequence
-from typing import NamedTuple, Optional, Protocol
+import signal
+from collections.abc import Callable
+from typing import Optional, Protocol
 
 from issuer_host.facts.request_lines import DECIDE
 from issuer_host.facts.statuses import Status
 from issuer_host.files.audit import Audit
-from issuer_host.host.event_loop import Action, Loop
+from issuer_host.host.event_loop import Loop
+from issuer_host.host.line_host import AnswerPacer, AtOnce, HostFigures, HostSettings, LineHost
 from issuer_host.host.lines import Entry
-from issuer_host.host.retry_policy import Holding
-from issuer_host.host.supervisor import Calls, HostFigures, Hosting
+from issuer_host.host.retry_policy import RetryPolicy
 from issuer_host.orders.declines import Declining, decline_of
 from issuer_host.orders.in_order import CardWorks, Work
 from issuer_host.orders.intent_log import WorkFile
@@ -17,50 +17,48 @@ from issuer_host.orders.order import Order, Ordered
 from issuer_host.orders.server import OrderSocket
 from issuer_host.orders.texts import NOT_DONE
 
-NAME = "bridge"
 MAX_BODY = 4095
 # Who asks for a request that isn't an account's decline, in the log.
 SWITCH = "switch"
 
 
-def take_at_once(_: str, take: Action) -> None:
-    take()
+class Requester(Protocol):
+    """Who has the requests, and sends their answers."""
+
+    def send(self, entry: Entry, text: str) -> None:
+        """Sends a request's answer."""
+
+    def drop(self, entry: Entry) -> None:
+        """No answer to a request comes any more."""
+
+    def is_current(self, entry: Entry) -> bool:
+        """Whether somebody still waits for a request's answer."""
 
 
-def nothing() -> None:
-    pass
+class PartitionKeeper(Protocol):
+    """Who runs the partition."""
 
+    def host_is_ready(self) -> None:
+        """The host has loaded the journals, or another one serves the partition."""
 
-class Outside(NamedTuple):
-    """What is called of who has the requests and sends the answers."""
+    def host_is_idle(self) -> None:
+        """The host ended, or has nothing to do."""
 
-    send: Callable[[Entry, str], object]
-    # Whether somebody still waits for a request's answer.
-    is_current: Callable[[Entry], bool]
-    # The host has answered a first line, or another one serves the partition.
-    ready: Callable[[], object]
-    # The host ended, or has nothing to do.
-    idle: Callable[[], object]
-    # The host ended with a status with which a new start would end too.
-    give_up: Callable[[int], object]
-    # A host's answer is taken by the action: at once, or when it may be known.
-    pass_on: Callable[[str, Action], object] = take_at_once
-    # The host ended, whatever its status.
-    ended: Callable[[], object] = nothing
-    # Why no order is taken now; nothing if orders are.
-    why_no_order: Callable[[], str] = str
+    def host_ended(self) -> None:
+        """The host ended, whatever its status."""
 
+    def give_up(self, status: int) -> None:
+        """A new start ends with this status too, until a person has acted or what fails has passed."""
 
-def is_request(body: bytes) -> bool:
-    """Whether a message is a line of the form A."""
-    return body.startswith(DECIDE.encode() + b" ") and b"\n" not in body and len(body) <= MAX_BODY
+    def why_no_order(self) -> str:
+        """Why no order is taken now; nothing if orders are."""
 
 
 class WorkFigures(HostFigures, Protocol):
     """Counts the work that a host is given, beside its runs."""
 
     def answered(self, answer: str, seconds: Optional[float]) -> None:
-        ...
+        """A line was answered. It has no time if it is put again."""
 
     def ordered(self, kind: str) -> None:
         """A line of an order came to this."""
@@ -72,7 +70,12 @@ class WorkFigures(HostFigures, Protocol):
         """So many cards wait for the status that they had before an account's decline."""
 
     def look_at_disk(self) -> None:
-        ...
+        """Measures the journals and their disk."""
+
+
+def is_request(body: bytes) -> bool:
+    """Whether a message is a line of the form A."""
+    return body.startswith(DECIDE.encode() + b" ") and b"\n" not in body and len(body) <= MAX_BODY
 
 
 class Serving:
@@ -81,33 +84,23 @@ class Serving:
     def __init__(
         self,
         loop: Loop,
-        command: Sequence[str],
-        journal: str,
+        settings: HostSettings,
         figures: WorkFigures,
-        orders: str,
-        outside: Outside,
-        name: str = NAME,
+        requester: Requester,
+        keeper: PartitionKeeper,
+        pacer: Optional[AnswerPacer] = None,
         file: Optional[WorkFile] = None,
     ) -> None:
-        self.loop = loop
-        self.figures = figures
-        self.outside = outside
-        self.holding = Holding()
-        self.audit = Audit(journal, name)
-        calls = Calls(
-            outside.pass_on,
-            self.answered,
-            lambda entry: self.works.may_pass(entry),
-            self.loaded,
-            self.records_read,
-            self.host_ended,
-            outside.give_up,
-        )
-        self.hosting = Hosting(loop, command, journal, figures, calls, name)
-        self.works = CardWorks(loop, self.hosting, file or WorkFile(journal), self.work_answered, self.release)
-        self.orders = OrderSocket(loop, orders, self.has_host, self.order)
+        self.loop, self.figures = loop, figures
+        self.requester, self.keeper = requester, keeper
+        self.retries = RetryPolicy()
+        self.audit = Audit(settings.journal, settings.name)
+        self.hosting = LineHost(loop, settings, self, self, figures, pacer or AtOnce())
+        notes = file or WorkFile(settings.journal)
+        self.works = CardWorks(loop, self.hosting, notes, self.retries, self.work_answered, self.release)
+        self.orders = OrderSocket(loop, settings.orders, self.has_host, self.order)
         # Whether requests come here: without them a host ends when it is idle.
-        self.is_served = False
+        self.is_served = self.is_stopping = False
 
     def begin(self) -> None:
         if self.orders.path:
@@ -118,13 +111,19 @@ class Serving:
     def take(self, entry: Entry) -> bool:
         """Takes a message. Returns whether it is a request or an account's decline."""
         self.is_served = True
-        decline = decline_of(entry.line)
-        if decline:
-            self.figures.declined()
-            self.works.add(Declining(decline, entry, self.outside.send))
-        elif is_request(entry.line):
+        is_known = is_request(entry.line) or decline_of(entry.line) is not None
+        if is_known:
+            self.put(entry)
+        return is_known
+
+    def put(self, entry: Entry) -> None:
+        """Puts a request to the host, or the three lines of an account's decline."""
+        decline = decline_of(entry.line) if b"\n" in entry.line else None
+        if decline is None:
             self.hosting.add(entry)
-        return decline is not None or is_request(entry.line)
+            return
+        self.figures.declined()
+        self.works.add(Declining(decline, entry, self.requester.send))
 
     def abandon(self) -> None:
         """Answers nobody any more: requests come again, here or elsewhere. The host ends."""
@@ -136,22 +135,31 @@ class Serving:
         """Answers nobody any more, and kills the host, which has ended when this returns."""
         self.is_served = False
         self.works.abandon("another machine may serve the partition now: ask again with the same number")
-        self.hosting.kill_now()
+        self.hosting.kill_now(-signal.SIGKILL)
+
+    def may_pass(self, entry: Entry) -> bool:
+        """Whether a request may be put now: somebody waits for it, and there is no work on its card."""
+        if entry.is_over:
+            self.requester.drop(entry)
+            return False
+        return self.works.may_pass(entry)
 
     def answered(self, entry: Entry, text: str) -> None:
         """Takes the host's answer: it is sent, or its line is held for a moment and put again."""
-        seconds = self.holding.seconds_of(entry, text)
+        seconds = self.retries.seconds_of(text, entry.began)
         if seconds is None:
             self.audit.answered(SWITCH, entry.line.decode("latin-1"), text)
-            self.outside.send(entry, text)
+            self.requester.send(entry, text)
         else:
             self.figures.answered(text, None)
             self.loop.call_later(seconds, lambda: self.put_again(entry))
         self.works.answered_entry(entry)
 
     def put_again(self, entry: Entry) -> None:
-        if self.outside.is_current(entry):
+        if self.requester.is_current(entry):
             self.hosting.add(entry)
+        else:
+            self.requester.drop(entry)
 
     # Orders
 
@@ -160,7 +168,7 @@ class Serving:
             self.figures.ordered(text.partition(" ")[0])
             reply(text)
 
-        why = self.outside.why_no_order()
+        why = self.keeper.why_no_order()
         if why:
             told(f"{NOT_DONE} done: {why}")
             return
@@ -173,11 +181,11 @@ class Serving:
 
     def has_host(self) -> bool:
         """Whether the partition is served here."""
-        return self.hosting.host is not None and self.is_served
+        return self.hosting.is_running and self.is_served
 
     def loaded(self) -> None:
         self.works.loaded()
-        self.outside.ready()
+        self.keeper.host_is_ready()
 
     def records_read(self) -> None:
         self.works.ready()
@@ -187,26 +195,29 @@ class Serving:
         """Ends a host that gets no requests: another bridge may need the journals."""
         if not self.is_served and not self.works and self.hosting.is_idle():
             self.hosting.close()
-        self.outside.idle()
+        self.keeper.host_is_idle()
 
     def host_ended(self, status: int) -> None:
-        self.outside.ended()
+        self.keeper.host_ended()
         if status == Status.JOURNAL_CLOSED and not self.is_served:
             self.works.abandon("another bridge, or another program, has the journals: order there")
-            self.outside.ready()
+            self.keeper.host_is_ready()
         self.works.host_ended()
-        self.outside.idle()
+        self.keeper.host_is_idle()
+
+    def gave_up(self, status: int) -> None:
+        self.keeper.give_up(status)
 
     # Time, and the end
 
     def look(self) -> None:
         self.figures.cards_restoring(self.works.restoring())
         self.figures.look_at_disk()
-        self.hosting.look(time.monotonic())
         self.release()
 
     def stop(self) -> None:
         """Takes no more orders, and begins no more work."""
+        self.is_stopping = True
         self.orders.end()
         self.works.stop()
 
@@ -214,4 +225,9 @@ class Serving:
         """Whether a host that is to stop has; it is stopped once no work is under way."""
         if not self.works:
             self.hosting.stop()
-        return self.hosting.host is None
+        return not self.hosting.is_running
+
+    def end(self) -> None:
+        """Kills a host that hasn't ended in time."""
+        self.stop()
+        self.hosting.kill_now(-signal.SIGKILL)

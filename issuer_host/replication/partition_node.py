@@ -18,16 +18,16 @@ from issuer_host.broker.connection import Link
 from issuer_host.broker.replies import Replying
 from issuer_host.broker.reply_mac import ReplyMacs
 from issuer_host.broker.types import Channel, Delivery, Properties, Step
-from issuer_host.broker.unacknowledged import entry_of
+from issuer_host.broker.unacknowledged import Delivered, entry_of
 from issuer_host.commands.entry import without_cards
 from issuer_host.facts.answers import RECORDED
 from issuer_host.facts.faults import lasts
-from issuer_host.facts.paths import HOME
 from issuer_host.facts.refusal import Refusal, tell
 from issuer_host.facts.statuses import Status, meaning_of
+from issuer_host.host.command import INPUT, command_of, serving_command
 from issuer_host.host.event_loop import Action, Loop
-from issuer_host.host.lines import Entry
-from issuer_host.orders.partition_host import Outside, Serving
+from issuer_host.host.line_host import HostSettings
+from issuer_host.orders.partition_host import Serving
 from issuer_host.replication import positions
 from issuer_host.replication.journal_files import JournalFiles, Passing
 from issuer_host.replication.messages import Message, MessageFault, NOTES, Record, Records, parse, text_of
@@ -39,7 +39,6 @@ from issuer_host.replication.stream import Place as StreamPlace, Stream
 from issuer_host.start.careful_start import NODE, shards_of
 from issuer_host.telling.figures import Figures
 
-CAREFUL_START = os.path.join(HOME, "deploy", "issuer-run")
 # What has the node begin that the queue delivers to. It is no request: a publisher can't write it to where it counts.
 WAKE = b"wake"
 # What didn't come back is written again after so long without any message, and reading begins anew after so long; after
@@ -81,19 +80,11 @@ class PartitionNode:
         self.link = Link(loop, parameters, self.steps_of, self.ready_link, self.lost)
         macs = ReplyMacs(node.broker_file)
         self.replying = Replying(loop, self.link, macs, figures, lambda: None, self.name)
-        outside = Outside(
-            self.replying.send,
-            self.replying.is_current,
-            self.host_is_loaded,
-            lambda: None,
-            self.give_up,
-            self.pass_on,
-            self.host_ended,
-            self.why_no_order,
-        )
-        command = self.command("serve", "--requests", "--callers", str(settings.callers))
+        program = node.program or ""
+        command = serving_command(settings.configuration, settings.journal, settings.callers, program, NODE)
         file = NotedWork(settings.journal, self.notes, self.noted, self.when_noted)
-        self.serving = Serving(loop, command, settings.journal, figures, settings.orders, outside, self.name, file)
+        host = HostSettings(command, settings.journal, self.name, orders=settings.orders)
+        self.serving = Serving(loop, host, figures, self.replying, self, self, file)
         # They are there once the position was read.
         self.journals: Optional[JournalFiles] = None
         self.lock: Optional[int] = None
@@ -127,12 +118,6 @@ class PartitionNode:
         # The state that was told, and why it is so.
         self.told_state = ""
         self.told = ""
-
-    def command(self, word: str, feed: str, *more: str) -> "list[str]":
-        """Returns a command of the careful start, with its lines from its input."""
-        begin = [CAREFUL_START, NODE, *(["--program", self.node.program] if self.node.program else [])]
-        files = ["--config", self.settings.configuration, feed, "/dev/stdin", "--journal", self.settings.journal]
-        return [*begin, word, *files, *more]
 
     def run(self) -> None:
         """Begins: opens the socket of orders, and connects."""
@@ -193,7 +178,9 @@ class PartitionNode:
         self.lock = self.lock or locked(journal)
         position = positions.read(journal)
         shards = shards_of(self.settings.configuration)
-        standby = self.command("standby", "--feed")
+        program = self.node.program or ""
+        feed = ["--feed", INPUT]
+        standby = command_of("standby", self.settings.configuration, journal, *feed, program=program, begin=NODE)
         self.journals = JournalFiles(self.loop, journal, shards, position, standby, self.name, self.failed)
         self.journals.open()
         place = StreamPlace(position.offset, position.digest)
@@ -316,7 +303,7 @@ class PartitionNode:
         self.replying.flight.add(entry)
         self.guarded(lambda: self.delivered(entry))
 
-    def delivered(self, entry: Entry) -> None:
+    def delivered(self, entry: Delivered) -> None:
         if self.bridge is None:
             # (the connection is being closed)
             return
@@ -327,7 +314,7 @@ class PartitionNode:
         self.bridge.called()
         self.tell_state()
 
-    def serve(self, entry: Entry) -> None:
+    def serve(self, entry: Delivered) -> None:
         if not entry.reply_to or not self.serving.take(entry):
             self.figures.bodies.inc()
             self.replying.settle(entry, False)
@@ -362,10 +349,13 @@ class PartitionNode:
                     self.serve(entry)
             self.serving.hosting.want()
 
-    def host_is_loaded(self) -> None:
-        if self.journals is not None and self.bridge is not None and self.serving.hosting.host is not None:
+    def host_is_ready(self) -> None:
+        if self.journals is not None and self.bridge is not None and self.serving.hosting.is_running:
             self.journals.read_all()
             self.bridge.host_loaded()
+
+    def host_is_idle(self) -> None:
+        """A node's host goes on without requests."""
 
     def host_ended(self) -> None:
         self.answers.clear()
@@ -469,9 +459,9 @@ class PartitionNode:
 
     def look_at_disk(self, now: float) -> None:
         """Lets another machine serve if this one's disk takes no record for long."""
-        since = self.serving.holding.full_since
+        since = self.serving.retries.full_since
         if since is not None and now - since > FULL_SECONDS and self.serving.is_served:
-            self.serving.holding.full_since = None
+            self.serving.retries.full_since = None
             self.link.begin_anew("the disk takes no record")
             self.complain("the disk takes no record: another machine may serve the partition")
 

@@ -48,8 +48,9 @@ class Machine:
         self.callers = callers
         self.partitions = partitions
         self.process: "Optional[subprocess.Popen[bytes]]" = None
-        # Where the log of the node begins that runs.
+        # Where the log of the node begins that runs, and what its command stands behind.
         self.begun = 0
+        self.before: Sequence[str] = ()
         os.makedirs(self.room)
         self.log = os.path.join(self.room, "log")
         self.file = os.path.join(self.room, "node.json")
@@ -106,7 +107,7 @@ class Machine:
 
     def start(self, wrong: str = "") -> None:
         """Starts the node; with another body of the rule, if one is named."""
-        command = [WRONG, wrong, self.file] if wrong else [NODE, self.file]
+        command = [WRONG, wrong, self.file] if wrong else [*self.before, NODE, self.file]
         with open(self.log, "ab") as log:
             self.begun = log.tell()
             self.process = subprocess.Popen(command, stdin=subprocess.DEVNULL, stderr=log, start_new_session=True)
@@ -205,6 +206,8 @@ class Room:
         self.private = private
         self.program = program
         self.partitions = partitions
+        # What the command of each node stands behind.
+        self.before: Sequence[str] = ()
         self.machines: list[Machine] = []
         # By partition all answers, and by request and partition what all its answers said.
         self.answers: dict[int, list[str]] = {}
@@ -223,6 +226,7 @@ class Room:
 
     def machine(self, name: str) -> Machine:
         found = Machine(self.folder, name, self.private.url_file, self.program, self.partitions, self.callers)
+        found.before = self.before
         self.machines.append(found)
         return found
 

@@ -1,0 +1,37 @@
+"""The gateway's loop, as a host's supervisor sees it."""
+
+import asyncio
+from collections.abc import Callable
+
+
+class AsyncioLoop:
+    """`host.event_loop.Loop` over asyncio."""
+
+    READ, WRITE = 1, 2
+
+    def __init__(self, loop: asyncio.AbstractEventLoop) -> None:
+        self.loop = loop
+
+    def start(self) -> None:
+        self.loop.run_forever()
+
+    def stop(self) -> None:
+        self.loop.stop()
+
+    def call_later(self, delay: float, callback: Callable[[], object]) -> object:
+        return self.loop.call_later(delay, callback)
+
+    def remove_timeout(self, timeout_handle: object) -> None:
+        if isinstance(timeout_handle, asyncio.TimerHandle):
+            timeout_handle.cancel()
+
+    def add_callback_threadsafe(self, callback: Callable[[], object]) -> None:
+        self.loop.call_soon_threadsafe(callback)
+
+    def add_handler(self, fd: int, handler: Callable[[int, int], None], events: int) -> None:
+        add = self.loop.add_reader if events == self.READ else self.loop.add_writer
+        add(fd, handler, fd, events)
+
+    def remove_handler(self, fd: int) -> None:
+        self.loop.remove_reader(fd)
+        self.loop.remove_writer(fd)
