@@ -13,6 +13,7 @@ WITHOUT_PROGRAM = (
     "tests/gateway/admission",
     "tests/pages/definitions --check",
     "tests/sources/crates",
+    "tests/sources/unused",
     "tests/sources/sinks",
     "tests/pages/figures",
     "tests/program/make_vectors --check",
