@@ -9,6 +9,7 @@ import pika
 
 from issuer_host.broker import broker_file
 from issuer_host.broker.types import Channel, Step
+from issuer_host.facts.limits import MAX_MESSAGE_BYTES
 
 REQUESTS, REPLIES, DEAD = "issuer.requests", "issuer.replies", "issuer.dead"
 # By this exchange nodes write to the streams of partitions: no publisher may.
@@ -27,7 +28,7 @@ HEARTBEAT = 10
 # A broker whose machine no longer takes what is sent, or answers no probe of the network, is gone after 5 s.
 SILENCE = {"TCP_USER_TIMEOUT": 5_000, "TCP_KEEPIDLE": 2, "TCP_KEEPINTVL": 1, "TCP_KEEPCNT": 3}
 # Bytes that the broker should take in a message (max_message_size of its configuration).
-MAX_MESSAGE = 65_536
+MAX_MESSAGE = MAX_MESSAGE_BYTES
 
 PARTITION_ARGUMENTS = {
     "x-queue-type": "quorum",

@@ -8,8 +8,14 @@ class Properties(Protocol):
 
     correlation_id: str
     reply_to: Optional[str]
-    # Where in a stream the message is; None if it is of no stream.
-    stream_offset: Optional[int]
+
+    @property
+    def stream_offset(self) -> Optional[int]:
+        """Where in a stream the message is; None if it is of no stream."""
+
+    @property
+    def has_headers(self) -> bool:
+        """Whether the message was written with headers."""
 
 
 class Delivery(Protocol):

@@ -1,8 +1,8 @@
 """What is read of a message: the properties that are used, and its body up to a limit.
 
 `pika` decodes all headers of a message before anybody sees it, and closes the connection at one that it doesn't like:
-the broker would deliver that message again, for ever. Nothing here uses a header, so none is decoded. And a body is
-kept in memory only as far as a request line can be long.
+the broker would deliver that message again, for ever. Nothing here uses a header but the offset of a stream's message,
+so no other is decoded. A body is kept in memory only as far as a request line, or a stream's message, can be long.
 """
 import struct
 from typing import Any, Optional, Union
@@ -29,8 +29,11 @@ LAYOUT = (
 # A second word of flags follows.
 MORE_FLAGS = 1
 # The headers of a stream's message that was written without any: its offset alone, a number of eight bytes.
-OFFSET = b"\x0fx-stream-offsetl"
-OFFSET_TABLE = struct.Struct(f">{len(OFFSET)}sq")
+OFFSET, NUMBER, NUMBER_BYTES = b"x-stream-offset", b"l", 8
+OFFSET_HEAD = bytes([len(OFFSET)]) + OFFSET + NUMBER
+# Bytes of a header's value by its type. A value of another type begins with its length, in four bytes.
+VALUE_BYTES = {b"V": 0, b"D": 5, **dict.fromkeys((b"t", b"b", b"B"), 1), **dict.fromkeys((b"s", b"u"), 2)}
+VALUE_BYTES.update({**dict.fromkeys((b"I", b"i", b"f"), 4), **dict.fromkeys((NUMBER, b"L", b"d", b"T"), NUMBER_BYTES)})
 # (bytes if they aren't UTF-8)
 Text = Union[str, bytes]
 
@@ -44,7 +47,18 @@ class UsedProperties:
         self.correlation_id: Optional[Text] = None
         self.reply_to: Optional[Text] = None
         self.message_id: Optional[Text] = None
-        self.stream_offset: Optional[int] = None
+        # The headers, as they came.
+        self.headers = b""
+
+    @property
+    def stream_offset(self) -> Optional[int]:
+        """Where in a stream the message is; None if it is of no stream."""
+        return offset_of(self.headers)
+
+    @property
+    def has_headers(self) -> bool:
+        """Whether the message was written with headers. (A stream's message has its offset as one besides.)"""
+        return bool(self.headers) and not is_offset_alone(self.headers)
 
     def decode(self, encoded: bytes, offset: int = 0) -> "UsedProperties":
         """Takes what is used of the encoded properties. Properties that end too early are those before their end."""
@@ -66,7 +80,7 @@ class UsedProperties:
                 continue
             begin, at = span_of(encoded, at, layout)
             if layout == TABLE:
-                self.stream_offset = offset_of(encoded[begin:at])
+                self.headers = encoded[begin:at]
             elif name in vars(self):
                 setattr(self, name, text_of(encoded[begin:at]))
 
@@ -81,12 +95,32 @@ def span_of(encoded: bytes, at: int, layout: str) -> tuple[int, int]:
     return at + 4, at + 4 + length
 
 
+def is_offset_alone(table: bytes) -> bool:
+    return len(table) == len(OFFSET_HEAD) + NUMBER_BYTES and table.startswith(OFFSET_HEAD)
+
+
 def offset_of(table: bytes) -> Optional[int]:
-    """Returns the offset of a stream's message by its headers; None if they are other ones."""
-    if len(table) != OFFSET_TABLE.size:
-        return None
-    key, offset = OFFSET_TABLE.unpack(table)
-    return int(offset) if key == OFFSET else None
+    """Returns the offset of a stream's message by its headers; None if they have none, or end too early."""
+    at = 0
+    try:
+        while at < len(table):
+            name, kind, at, end = header_at(table, at)
+            if name == OFFSET and kind == NUMBER:
+                return int.from_bytes(table[at:end], "big")
+            at = end
+    except (struct.error, IndexError):
+        pass
+    return None
+
+
+def header_at(table: bytes, at: int) -> tuple[bytes, bytes, int, int]:
+    """Returns a header's name and type, and where its value begins and ends. What is in the value isn't decoded."""
+    begin = at + 1 + table[at]
+    name, kind = table[at + 1 : begin], table[begin : begin + 1]
+    if kind in VALUE_BYTES:
+        return name, kind, begin + 1, begin + 1 + VALUE_BYTES[kind]
+    (length,) = struct.unpack_from(">I", table, begin + 1)
+    return name, kind, begin + 5, begin + 5 + length
 
 
 def text_of(value: bytes) -> Text:
@@ -99,7 +133,8 @@ def text_of(value: bytes) -> Text:
 class ShortBodies:
     """Puts a message's frames together, as `pika` does, and keeps the beginning of its body alone."""
 
-    def __init__(self) -> None:
+    def __init__(self, kept: int = KEPT) -> None:
+        self.kept = kept
         self.method: Any = None
         self.header: Any = None
         self.seen = 0
@@ -113,7 +148,7 @@ class ShortBodies:
             self.body = b""
         elif isinstance(frame, pika.frame.Body):
             self.seen += len(frame.fragment)
-            self.body += frame.fragment[: KEPT - len(self.body)]
+            self.body += frame.fragment[: self.kept - len(self.body)]
         else:
             self.method = frame
             return None
@@ -127,7 +162,7 @@ def decode_no_headers() -> None:
     pika.spec.props[BASIC] = UsedProperties
 
 
-def keep_short_bodies(channel: Any) -> None:
+def keep_short_bodies(channel: Any, kept: int = KEPT) -> None:
     """Has a channel keep the beginnings of bodies alone. (`pika` has no other place for it.)"""
     if hasattr(channel, "_content_assembler"):
-        channel._content_assembler = ShortBodies()
+        channel._content_assembler = ShortBodies(kept)

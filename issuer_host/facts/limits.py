@@ -13,6 +13,8 @@ WINDOW = 256
 MAX_LINE_BYTES = 2051
 # Bytes of a feed line, its newline included.
 MAX_FEED_LINE_BYTES = 524
+# Bytes of a message that a broker takes: a stream's messages are within them.
+MAX_MESSAGE_BYTES = 65_536
 # A run ends past so many lines or bytes of what it reads line by line.
 RUN_LINES = 1_048_576
 RUN_BYTES = 2_147_483_648

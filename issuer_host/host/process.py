@@ -136,9 +136,21 @@ class Host:
                     self.write_some()
         self.close_input()
         try:
-            return self.wait(seconds)
+            status = self.wait(seconds)
+            self.take_last_line()
+            return status
         finally:
             self.output.close()
+
+    def take_last_line(self) -> None:
+        """Takes what a run that has ended wrote last, as why it stopped. Its answers are nobody's any more."""
+        with contextlib.suppress(BlockingIOError):
+            while piece := os.read(self.output.fileno(), PIECE):
+                self.unread += piece
+        *lines, _ = self.unread.split(b"\n")
+        text = lines[-1].decode("ascii", errors="replace") if lines else ""
+        if text and text.partition(" ")[0] not in ANSWERS:
+            self.stop_line = text
 
     def kill(self) -> None:
         self.process.kill()

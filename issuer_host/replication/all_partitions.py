@@ -6,6 +6,7 @@ import time
 from issuer_host.facts.statuses import Status
 from issuer_host.host.event_loop import new_loop
 from issuer_host.replication import positions
+from issuer_host.replication.cluster_keys import ClusterKeys
 from issuer_host.replication.node_file import NodeSettings
 from issuer_host.replication.partition_node import PartitionNode, STOPPED
 from issuer_host.replication.rule import State
@@ -24,13 +25,13 @@ READY = (State.WAITING.value, State.BEGINNING.value, State.SERVING.value, STOPPE
 class AllPartitions:
     """The partitions of NODE.json."""
 
-    def __init__(self, settings: NodeSettings) -> None:
+    def __init__(self, settings: NodeSettings, keys: ClusterKeys) -> None:
         self.status: int = Status.OK
         self.loop = new_loop()
         self.keeper = positions.Keeper(self.loop)
         kinds = kinds_at(settings.figures, KINDS_OF_NODE)
         self.partitions = [
-            PartitionNode(self.loop, settings, one, Figures(one.number, one.journal, kinds), self.keeper)
+            PartitionNode(self.loop, settings, one, keys, Figures(one.number, one.journal, kinds), self.keeper)
             for one in settings.partitions
         ]
         self.readiness = Readiness(NAME)

@@ -5,6 +5,7 @@ stays until a host has to begin or a journal is truncated. A truncated journal's
 """
 import collections
 import os
+import re
 from collections.abc import Callable, Sequence
 from typing import Optional, Union
 
@@ -19,6 +20,7 @@ from issuer_host.host.process import Host
 from issuer_host.replication.messages import NOTES, Record
 from issuer_host.replication.notes import Notes
 from issuer_host.replication.positions import Position
+from issuer_host.replication.record_origins import FedLines, NOWHERE, RefusedRecord, refusal_of
 from issuer_host.start.history_checks import is_locked
 
 PIECE = 1 << 16
@@ -29,6 +31,8 @@ MOST_WAITING = 1_000
 # With these a run of standby ends in the same way until a person has acted.
 NEED_A_PERSON = (*NOT_AGAIN, Status.BAD_FEED)
 LOOK = "the machines' journals aren't of one history; copy another machine's by deploy/node --copy"
+# The last line of a run of standby that a line of its feed is bad.
+BAD_LINE = re.compile(rf"stop {Status.BAD_FEED:d} ([1-9][0-9]*)")
 
 
 class Passing(Exception):
@@ -110,6 +114,9 @@ class JournalFiles:
         self.notes = Notes(journal, position.counts[NOTES])
         self.standby: Optional[Host] = None
         self.sealing = Sealing(journal, name)
+        # The message of the stream that is being read, and from which one the lines came that the run was given.
+        self.origin = NOWHERE
+        self.fed = FedLines()
         # What is called when the run of standby has ended that is to end; None if it isn't to end.
         self.on_ended: Optional[Callable[[], object]] = None
 
@@ -160,15 +167,14 @@ class JournalFiles:
             self.notes.append(record.text)
             return
         if record.shard >= len(self.shards) or len(record.text) >= MAX_RECORD_LINE:
-            raise Refusal(
-                f"the stream has a record of shard {record.shard} that no journal here can have: the machines have"
-                " other configurations"
-            )
+            raise RefusedRecord(f"shard {record.shard} has no journal here that could have it")
         if self.standby is None or not self.standby.is_open or self.standby.is_full():
             self.end_standby_now()
             self.standby = Host(self.loop, self.command, lambda _: None, self.standby_ended)
             self.sealing = Sealing(self.journal, self.name)
-        self.standby.put(f"{record.shard} {record.place} {record.text}".encode("latin-1"))
+            self.fed.begin()
+        self.standby.put(f"{record.shard} {record.place} {record.text}".encode("ascii"))
+        self.fed.add(self.standby.lines, self.origin)
 
     def truncate(self, shard: int, length: int) -> None:
         if length < self.log(shard).count:
@@ -242,6 +248,10 @@ class JournalFiles:
         self.sealing.end()
 
     def fault_of(self, status: int, said: str) -> Exception:
+        bad = BAD_LINE.fullmatch(said)
+        origin = self.fed.of(int(bad[1])) if bad else None
+        if origin is not None:
+            return refusal_of(origin, f"standby ended with `{said}`, {meaning_of(status)}")
         if status in NEED_A_PERSON:
             return Refusal(f"the records of the stream aren't taken into {self.journal}: {said}: {meaning_of(status)}")
         return Passing(f"standby ended with {status}, {said or 'without a last line'}: {meaning_of(status)}")

@@ -1,4 +1,4 @@
-"""The messages of a partition's stream, and their text.
+"""The messages of a partition's stream, and their text. `message_mac` has the line that follows it.
 
     barrier NUMBER NAME MACHINE     a bridge becomes the active one: records of this NAME count from here on
     records NAME SEQUENCE           and feed lines, SHARD PLACE RECORD: what the host of that bridge recorded
@@ -6,7 +6,7 @@
 
 The shard past the greatest one has the notes of work on cards (`notes`): they count as records do.
 
-A name is new for each barrier. A sequence only tells messages apart.
+A name is new for each barrier. A sequence only tells messages apart. A text of another form counts nowhere.
 """
 import re
 from typing import NamedTuple, Union
@@ -18,10 +18,14 @@ NOTES = MAX_SHARDS
 LOGS = MAX_SHARDS + 1
 NAME = re.compile(r"[0-9A-Za-z_.-]{1,64}")
 NUMBER = re.compile(r"0|[1-9][0-9]{0,17}")
+# How many records one message has at most: the longest ones too are within what a broker takes of a message.
+MAX_RECORDS = 100
+# Characters of a text that a reason has.
+SHOWN = 40
 
 
 class MessageFault(Exception):
-    """A text that is no message of a stream."""
+    """A text that is no message of a stream, or that no node wrote: it counts nowhere."""
 
 
 class Record(NamedTuple):
@@ -68,35 +72,37 @@ def text_of(message: Message) -> str:
 def parse(text: str) -> Message:
     """Returns the message of a text. Raises MessageFault if it is none."""
     if not text.endswith("\n"):
-        raise MessageFault(f"its last line isn't ended: {text[-40:]!r}")
+        raise MessageFault("its last line isn't ended")
     head, *lines = text.split("\n")[:-1]
     kind, *words = head.split(" ")
+    if len(lines) > MAX_RECORDS:
+        raise MessageFault(f"it has {len(lines)} records, and {MAX_RECORDS} are the most")
     if kind == "records" and len(words) == 2:
         return Records(name_of(words[0]), number_of(words[1]), tuple(map(record_of, lines)))
     if lines:
-        raise MessageFault(f"lines stand behind {head[:40]!r}")
+        raise MessageFault(f"lines follow {head[:SHOWN]!r}")
     if kind == "barrier" and len(words) == 3:
         return Barrier(number_of(words[0]), name_of(words[1]), name_of(words[2]))
     if kind == "mark" and len(words) == 1:
         return Mark(name_of(words[0]))
-    raise MessageFault(f"no message begins with {head[:40]!r}")
+    raise MessageFault(f"no message begins with {head[:SHOWN]!r}")
 
 
 def record_of(line: str) -> Record:
     shard, _, rest = line.partition(" ")
     place, _, text = rest.partition(" ")
     if not text or number_of(shard) >= LOGS:
-        raise MessageFault(f"no feed line is {line[:40]!r}")
+        raise MessageFault(f"no feed line is {line[:SHOWN]!r}")
     return Record(number_of(shard), number_of(place), text)
 
 
 def name_of(word: str) -> str:
     if not NAME.fullmatch(word):
-        raise MessageFault(f"no name is {word[:40]!r}")
+        raise MessageFault(f"no name is {word[:SHOWN]!r}")
     return word
 
 
 def number_of(word: str) -> int:
     if not NUMBER.fullmatch(word):
-        raise MessageFault(f"no number is {word[:40]!r}")
+        raise MessageFault(f"no number is {word[:SHOWN]!r}")
     return int(word)

@@ -14,7 +14,8 @@ their journals, and go on where it ends. No reply is sent before its record coun
          the position beside them, to TO, which no node may have open. FROM may be in use; if it is copied from
          elsewhere by other means, its file .position is copied before its journals
 
-NODE.json  the machine's name, the file with the broker's URL, and the partitions; docs/FORMATS.md has its members
+NODE.json  the machine's name, the files with the broker's URL and with the cluster's key, and the partitions;
+           docs/FORMATS.md has its members
 
 Each change of a partition is a line of the error output: `node: partition N: STATE`, and why. STATE is away (no
 connection), reading (what was written meanwhile), waiting (in the line of the queue's consumers), beginning (its
@@ -31,7 +32,7 @@ from typing import NoReturn
 from issuer_host.facts.journals import shards_of_files
 from issuer_host.facts.refusal import Refusal, tell
 from issuer_host.facts.statuses import Status
-from issuer_host.replication import node_file, positions
+from issuer_host.replication import cluster_keys, node_file, positions
 from issuer_host.start.careful_start import shards_of
 from issuer_host.start.journal_checks import create_journals
 
@@ -79,10 +80,11 @@ def run(options: argparse.Namespace) -> int:
         begin(options.node)
         return Status.OK
     settings = node_file.read(options.node)
+    keys = cluster_keys.read(settings.cluster_key_file)
     # (what needs no broker needs no pika)
     from issuer_host.replication.all_partitions import AllPartitions
 
-    return AllPartitions(settings).run()
+    return AllPartitions(settings, keys).run()
 
 
 def main(words: Sequence[str]) -> int:

@@ -1,6 +1,7 @@
 """The file that says what a node runs: NODE.json.
 
-    {"machine": "m1", "broker_file": "/path/url-file", "program": "/path/issuer (may be absent)",
+    {"machine": "m1", "broker_file": "/path/url-file", "cluster_key_file": "/path/key",
+     "program": "/path/issuer (may be absent)",
      "partitions": [{"number": 0, "configuration": "/path/0.json", "journal": "/path/journals/0", "callers": 1,
                      "orders": "/path/0.sock (may be absent)"}],
      "figures": 0}
@@ -14,7 +15,15 @@ from issuer_host.replication.messages import NAME
 
 MOST_PARTITIONS = 1_000
 # What a member may be, by its name; those that may be absent have a default.
-OF_NODE = {"machine": str, "broker_file": str, "program": str, "partitions": list, "figures": int, "window": int}
+OF_NODE = {
+    "machine": str,
+    "broker_file": str,
+    "cluster_key_file": str,
+    "program": str,
+    "partitions": list,
+    "figures": int,
+    "window": int,
+}
 OF_PARTITION = {"number": int, "configuration": str, "journal": str, "callers": int, "orders": str}
 DEFAULTS: "dict[str, Any]" = {"program": None, "figures": 0, "window": 64, "callers": 1, "orders": ""}
 
@@ -34,6 +43,8 @@ class NodeSettings(NamedTuple):
 
     machine: str
     broker_file: str
+    # The file of the keys that the cluster's nodes share.
+    cluster_key_file: str
     program: Optional[str]
     partitions: "tuple[PartitionSettings, ...]"
     # The port of the figures; 0 if there are none.

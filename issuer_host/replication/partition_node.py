@@ -29,15 +29,19 @@ from issuer_host.host.event_loop import Action, Loop
 from issuer_host.host.line_host import HostSettings
 from issuer_host.orders.partition_host import Serving
 from issuer_host.replication import positions
+from issuer_host.replication.cluster_keys import ClusterKeys
 from issuer_host.replication.journal_files import JournalFiles, Passing
-from issuer_host.replication.messages import Message, MessageFault, NOTES, Record, Records, parse, text_of
+from issuer_host.replication.message_mac import MessageMacs
+from issuer_host.replication.messages import Message, NOTES, Record, Records, text_of
 from issuer_host.replication.node_file import NodeSettings, PartitionSettings
 from issuer_host.replication.notes import NotedWork, Notes
 from issuer_host.replication.positions import Position
+from issuer_host.replication.record_origins import Origin, RefusedRecord, refusal_of
 from issuer_host.replication.rule import Answer, Bridge, Count, Diverged, Place, State
-from issuer_host.replication.stream import Place as StreamPlace, Stream
+from issuer_host.replication.stream import Place as StreamPlace, Stream, Taken
 from issuer_host.start.careful_start import NODE, shards_of
 from issuer_host.telling.figures import Figures
+from issuer_host.telling.limited import LimitedTelling
 
 # What has the node begin that the queue delivers to. It is no request: a publisher can't write it to where it counts.
 WAKE = b"wake"
@@ -66,7 +70,13 @@ class PartitionNode:
     """A partition's bridge, and its journals."""
 
     def __init__(
-        self, loop: Loop, node: NodeSettings, settings: PartitionSettings, figures: Figures, keeper: positions.Keeper
+        self,
+        loop: Loop,
+        node: NodeSettings,
+        settings: PartitionSettings,
+        keys: ClusterKeys,
+        figures: Figures,
+        keeper: positions.Keeper,
     ) -> None:
         self.loop = loop
         self.keeper = keeper
@@ -75,6 +85,8 @@ class PartitionNode:
         self.figures = figures
         self.name = f"node: partition {settings.number}"
         self.queue = topology.queue_of(settings.number)
+        self.macs = MessageMacs(topology.stream_of(settings.number), keys.keys)
+        self.limited = LimitedTelling(lambda text: tell(self.name, text))
         parameters = topology.parameters_of(node.broker_file)
         parameters.heartbeat = HEARTBEAT
         self.link = Link(loop, parameters, self.steps_of, self.ready_link, self.lost)
@@ -133,11 +145,8 @@ class PartitionNode:
         try:
             if not self.is_stopped:
                 step()
-        except (Refusal, Diverged) as fault:
+        except Refusal as fault:
             self.stop(str(fault))
-        except MessageFault as fault:
-            # (its text has a piece of the message)
-            self.stop(without_cards(str(fault)))
         except Passing as fault:
             self.begin_again(str(fault))
         except OSError as fault:
@@ -184,7 +193,7 @@ class PartitionNode:
         self.journals = JournalFiles(self.loop, journal, shards, position, standby, self.name, self.failed)
         self.journals.open()
         place = StreamPlace(position.offset, position.digest)
-        self.stream = Stream(self.loop, topology.stream_of(self.settings.number), place, self.call, self.complain)
+        self.stream = Stream(self.loop, self.macs, place, self.call, self.complain)
         self.bridge = Bridge(self.node.machine, Count(position.barrier, position.counts), self.journals, self)
         self.kept = position
         self.rewritten = 0
@@ -221,19 +230,37 @@ class PartitionNode:
                 self.is_called = True
                 self.loop.call_later(ROOM_SECONDS, lambda: self.guarded(self.read_on))
                 break
-            body = self.stream.next()
-            if body is None:
+            taken = self.stream.next()
+            if taken is None:
                 break
-            self.read(parse(body.decode("latin-1")))
+            self.take_message(taken)
         else:
             self.call()
         if self.journals is not None:
             self.journals.flush()
 
-    def read(self, message: Message) -> None:
-        assert self.bridge is not None
-        self.heard = self.read_at = time.monotonic()
-        self.bridge.read(message)
+    def take_message(self, taken: Taken) -> None:
+        self.read_at = time.monotonic()
+        if taken.message is None:
+            self.pass_over(taken)
+        else:
+            self.heard = self.read_at
+            self.read(taken.offset, taken.message)
+
+    def pass_over(self, taken: Taken) -> None:
+        """A message that no node wrote counts nowhere, on all machines alike. A person finds out who writes there."""
+        self.figures.passed_over.inc()
+        # (what is wrong may have a piece of the message)
+        why = without_cards(taken.why)
+        self.limited.tell(f"message {taken.offset} of {self.macs.stream} is passed over, as no node wrote it: {why}")
+
+    def read(self, offset: int, message: Message) -> None:
+        assert self.bridge is not None and self.journals is not None
+        self.journals.origin = Origin(self.macs.stream, offset, self.bridge.count.barrier.machine)
+        try:
+            self.bridge.read(message)
+        except (Diverged, RefusedRecord) as fault:
+            raise refusal_of(self.journals.origin, str(fault)) from fault
         if self.is_gap(message):
             self.write_again()
         self.pass_soon()
@@ -509,12 +536,14 @@ class PartitionNode:
         """Returns the position of what was read."""
         assert self.bridge is not None and self.stream is not None and self.journals is not None
         counts, sizes = self.journals.counts(), self.journals.sizes()
-        return Position(*self.stream.place, self.bridge.count.barrier, counts, sizes)
+        return Position(*self.stream.signed, self.bridge.count.barrier, counts, sizes)
 
     def position_kept(self, position: Position, fault: Optional[OSError]) -> None:
         self.is_keeping = False
         if fault is None:
             self.kept = position
+            if self.journals is not None:
+                self.journals.fed.forget(position.offset)
         else:
             self.complain(f"the position can't be written: {fault.strerror}")
 

@@ -4,7 +4,8 @@ It knows neither broker nor files: `Outside` is what a bridge does, and `Journal
 
 The stream is the one order in which all machines see a partition's messages.
 
-- A barrier counts if its number is greater than that of the last one that counts.
+- A message that no node wrote counts nowhere (`message_mac`): whoever reads it goes on as if it weren't there.
+- A barrier counts if its number is that of the last one that counts, plus one.
 - A record counts if its name is that of the last barrier that counts, and its place is its shard's number of records
   that count.
 
@@ -27,18 +28,16 @@ import enum
 from collections.abc import Iterator
 from typing import NamedTuple, Optional, Protocol
 
-from issuer_host.replication.messages import Barrier, LOGS, Mark, Message, Record, Records
+from issuer_host.replication.messages import Barrier, LOGS, MAX_RECORDS, Mark, Message, Record, Records
 
 # The number of a shard, and a record's place in it.
 Place = tuple[int, int]
 
 NO_BARRIER = Barrier(0, "", "")
-# How many records one message has at most: the longest ones too are within what a broker takes of a message.
-MAX_RECORDS = 100
 
 
 class Diverged(Exception):
-    """The host's journal has another record where one of its own counts: this can't come from what was written."""
+    """A record counts that the host which serves didn't record: who has the cluster's key wrote it."""
 
 
 class Count:
@@ -52,7 +51,7 @@ class Count:
 
     def take(self, message: Message) -> list[Record]:
         """Takes the stream's next message, and returns those of its records that count."""
-        if isinstance(message, Barrier) and message.number > self.barrier.number:
+        if isinstance(message, Barrier) and message.number == self.barrier.number + 1:
             self.barrier = message
         if not isinstance(message, Records) or message.name != self.barrier.name:
             return []
@@ -204,7 +203,7 @@ class Bridge:
     def replace(self, record: Record, is_other_there: bool) -> None:
         """Appends a record that counts, and cuts off before what its journal has at its place."""
         if self.state is State.SERVING:
-            raise Diverged(f"shard {record.shard}, record {record.place}")
+            raise Diverged(f"shard {record.shard}, record {record.place}, isn't what its host recorded")
         if is_other_there:
             self.journals.truncate(record.shard, record.place)
         self.journals.put(record)

@@ -7,6 +7,10 @@ who hears nothing for a while reads on by a new one.
 
 Each reading begins with the message that was read last, which has to be the same. So a stream that lost its end, was
 made anew, or doesn't reach back so far is noticed.
+
+A message that no node of the cluster wrote counts nowhere: it is passed over, whoever reads it. Two of the messages
+have to be a node's: the first one of the stream, and the one that a position names. So a machine that lacks the
+cluster's key is noticed before it takes anything.
 """
 import collections
 import contextlib
@@ -18,9 +22,11 @@ import pika
 
 from issuer_host.broker import topology
 from issuer_host.broker.types import Channel, Delivery, Properties
+from issuer_host.broker.wire import keep_short_bodies
 from issuer_host.facts.refusal import Refusal
 from issuer_host.host.event_loop import Loop
-from issuer_host.replication.messages import Mark, text_of
+from issuer_host.replication.message_mac import MessageMacs
+from issuer_host.replication.messages import Mark, Message, MessageFault, text_of
 from issuer_host.replication.positions import BEFORE, digest_of, first_text
 
 # Messages that the broker sends before the first one of them is acknowledged, and so many are acknowledged together.
@@ -35,6 +41,10 @@ WRITTEN = pika.BasicProperties(delivery_mode=2, content_type="text/plain")
 DECLARE = "run deploy/queues --streams"
 COPY = "copy another machine's journals by deploy/node --copy"
 ANEW = "docs/OPERATIONS.md has how a stream is begun anew from the longest journals"
+KEY = (
+    "give this machine the cluster's keys, or begin a stream anew that was written without them; docs/MACHINES.md has"
+    ' both, in "The cluster\'s key"'
+)
 
 
 class Place(NamedTuple):
@@ -44,28 +54,54 @@ class Place(NamedTuple):
     digest: str
 
 
+class Delivered(NamedTuple):
+    """A message that was delivered and isn't read."""
+
+    tag: int
+    offset: int
+    body: bytes
+    has_headers: bool = False
+
+
+class Taken(NamedTuple):
+    """A message that was read: what a node wrote, or why it counts nowhere."""
+
+    offset: int
+    message: Optional[Message]
+    why: str = ""
+
+
 class Stream:
     """A stream of one connection after another. `on_more` is called when there is something to read."""
 
     def __init__(
-        self, loop: Loop, name: str, place: Place, on_more: Callable[[], object], on_fault: Callable[[str], object]
+        self,
+        loop: Loop,
+        macs: MessageMacs,
+        place: Place,
+        on_more: Callable[[], object],
+        on_fault: Callable[[str], object],
     ) -> None:
         self.loop = loop
-        self.name = name
+        self.macs = macs
+        self.name = macs.stream
         self.on_more = on_more
         # Gets why a channel was closed; it is opened again.
         self.on_fault = on_fault
+        # The message that was read last, and the last one of a node.
         self.place = place
+        self.signed = place
         self.connection: Any = None
         self.writing: Optional[Channel] = None
         self.reading: Optional[Channel] = None
         # What is written once the channel is open.
-        self.unwritten: collections.deque[str] = collections.deque()
+        self.unwritten: collections.deque[bytes] = collections.deque()
         self.is_open = False
-        # What was delivered and isn't read: its tag and its offset beside it.
-        self.unread: collections.deque[tuple[int, int, bytes]] = collections.deque()
+        self.unread: collections.deque[Delivered] = collections.deque()
         # How many messages that were read aren't acknowledged.
         self.unacknowledged = 0
+        # The keys of others by which this one's was named.
+        self.named: list[bytes] = []
         # Whether the message that was read last was found again.
         self.is_compared = False
 
@@ -83,6 +119,7 @@ class Stream:
         self.is_open = False
         self.unwritten.clear()
         self.unread.clear()
+        self.named.clear()
 
     def is_usable(self) -> bool:
         return self.connection is not None and bool(self.connection.is_open)
@@ -90,14 +127,14 @@ class Stream:
     # Writing
 
     def write(self, text: str) -> None:
-        """Writes a message. It may come late, or never."""
-        self.unwritten.append(text)
+        """Signs and writes a message. It may come late, or never."""
+        self.unwritten.append(self.macs.signed(text))
         self.flush()
 
     def flush(self) -> None:
         while self.is_open and self.unwritten and self.writing is not None and self.is_usable():
-            text = self.unwritten.popleft()
-            self.writing.basic_publish(topology.RECORDS, self.name, text.encode("ascii"), WRITTEN, mandatory=True)
+            body = self.unwritten.popleft()
+            self.writing.basic_publish(topology.RECORDS, self.name, body, WRITTEN, mandatory=True)
 
     def write_anew(self) -> None:
         """Leaves the channel for another one: what is on its way may be lost."""
@@ -135,6 +172,7 @@ class Stream:
 
         def opened(channel: Channel) -> None:
             self.reading = channel
+            keep_short_bodies(channel, topology.MAX_MESSAGE + 1)
             channel.add_on_close_callback(self.closed)
             channel.add_on_cancel_callback(lambda _: self.closed(channel, Exception("the stream is gone")))
             channel.basic_qos(prefetch_count=PREFETCH)
@@ -152,24 +190,52 @@ class Stream:
 
     def delivered(self, channel: Channel, delivery: Delivery, properties: Properties, body: bytes) -> None:
         if channel is self.reading:
-            offset = properties.stream_offset
-            self.unread.append((delivery.delivery_tag, BEFORE if offset is None else offset, body))
+            offset = BEFORE if properties.stream_offset is None else properties.stream_offset
+            self.unread.append(Delivered(delivery.delivery_tag, offset, body, properties.has_headers))
             self.on_more()
 
-    def next(self) -> Optional[bytes]:
+    def next(self) -> Optional[Taken]:
         """Takes the next message, if there is one. Refuses a stream that isn't the one that was read before."""
         while self.unread:
-            tag, offset, body = self.unread.popleft()
-            self.acknowledge(tag)
-            if offset == BEFORE:
-                raise Refusal(f"{self.name} has a message with headers, which no node writes: look who may write there")
-            is_new = self.is_compared or self.place.offset == BEFORE
-            if not self.is_compared:
-                self.compare(offset, body)
-            if is_new:
-                self.place = Place(offset, digest_of(body))
-                return body
+            delivered = self.unread.popleft()
+            self.acknowledge(delivered.tag)
+            if self.place.offset == BEFORE:
+                self.check_first(delivered)
+            elif not self.is_compared:
+                self.compare(delivered)
+                continue
+            return self.take(delivered)
         return None
+
+    def take(self, delivered: Delivered) -> Taken:
+        """Reads a message. Refuses one that says that this machine lacks a key."""
+        place = self.place if delivered.offset == BEFORE else Place(delivered.offset, digest_of(delivered.body))
+        try:
+            message = self.message_of(delivered)
+        except MessageFault as fault:
+            self.place = place
+            return Taken(delivered.offset, None, str(fault))
+        if self.macs.lacks_key_of(message):
+            raise Refusal(f"message {delivered.offset} of {self.name} names a key that isn't here; {KEY}")
+        self.place = self.signed = place
+        self.name_key(delivered.body)
+        return Taken(delivered.offset, message)
+
+    def name_key(self, body: bytes) -> None:
+        """Names the key that signs here, by that of a message which another key signed, once a connection.
+
+        (By its own key as well: what a position names at last is a message that the new key signed.)
+        """
+        key = self.macs.key_of(body) if len(self.macs.keys) > 1 else None
+        if key is not None and key not in (self.macs.keys[0], *self.named):
+            self.named.append(key)
+            text = text_of(self.macs.key_mark())
+            self.unwritten.append(self.macs.signed_by(key, text))
+            self.write(text)
+
+    def message_of(self, delivered: Delivered) -> Message:
+        """Returns what a node wrote. A message that counts nowhere is a MessageFault."""
+        return self.macs.message_of(delivered.body, delivered.has_headers)
 
     def acknowledge(self, tag: int) -> None:
         self.unacknowledged += 1
@@ -177,46 +243,62 @@ class Stream:
             self.unacknowledged = 0
             self.reading.basic_ack(tag, multiple=True)
 
-    def compare(self, offset: int, body: bytes) -> None:
-        """Finds the message again that was read last, or what a stream begins with."""
-        if self.place.offset == BEFORE:
-            if offset != 0:
-                raise Refusal(f"{self.name} doesn't reach back to its beginning, but to message {offset}: {COPY}")
-            if body.decode("latin-1") != first_text(self.place.digest):
-                raise Refusal(
-                    f"{self.name} begins with other journals than those here: all machines begin with the same ones,"
-                    f" or {COPY}"
-                )
-        elif offset > self.place.offset:
+    def check_first(self, delivered: Delivered) -> None:
+        """Refuses a stream that doesn't begin with what a node writes there, of the journals that are here."""
+        if delivered.offset != 0:
+            raise Refusal(f"{self.name} doesn't reach back to its beginning, but to message {delivered.offset}: {COPY}")
+        try:
+            first = self.message_of(delivered)
+        except MessageFault as fault:
+            raise Refusal(f"the first message of {self.name} is of no node that has a key of here: {fault}; {KEY}")
+        if text_of(first) != first_text(self.place.digest):
+            raise Refusal(
+                f"{self.name} begins with other journals than those here: all machines begin with the same ones, or"
+                f" {COPY}"
+            )
+        self.is_compared = True
+
+    def compare(self, delivered: Delivered) -> None:
+        """Finds the message again that was read last."""
+        offset = delivered.offset
+        if offset > self.place.offset:
             raise Refusal(
                 f"{self.name} doesn't reach back to message {self.place.offset}, which was read last, but to {offset}:"
                 f" {COPY}"
             )
-        elif offset < self.place.offset or digest_of(body) != self.place.digest:
+        if offset < self.place.offset or digest_of(delivered.body) != self.place.digest:
             raise Refusal(
                 f"message {offset} of {self.name} isn't the one that was read: the stream lost its end, or was made"
                 f" anew; {ANEW}"
             )
+        try:
+            if self.place == self.signed:
+                self.message_of(delivered)
+                self.name_key(delivered.body)
+        except MessageFault as fault:
+            raise Refusal(f"message {offset} of {self.name} is of no node that has a key of here: {fault}; {KEY}")
         self.is_compared = True
 
     def probe(self) -> None:
         """Looks for the stream's end, if the message that was read last doesn't come."""
-        word = uuid.uuid4().hex
+        text = text_of(Mark(uuid.uuid4().hex))
+        sought = self.macs.signed(text)
 
         def opened(channel: Channel) -> None:
+            keep_short_bodies(channel, topology.MAX_MESSAGE + 1)
             channel.basic_qos(prefetch_count=PREFETCH)
             channel.basic_consume(self.name, delivered, arguments={"x-stream-offset": LAST})
-            self.write(text_of(Mark(word)))
+            self.write(text)
 
         def delivered(channel: Channel, delivery: Delivery, properties: Properties, body: bytes) -> None:
             channel.basic_ack(delivery.delivery_tag)
-            if body.decode("latin-1") != text_of(Mark(word)):
+            if body != sought:
                 return
             close(channel)
             offset = properties.stream_offset
             if not self.is_compared and offset is not None and offset <= self.place.offset:
                 self.unread.clear()
-                self.unread.append((0, offset, body))
+                self.unread.append(Delivered(0, offset, body))
                 self.reading = None
                 self.on_more()
 

@@ -33,6 +33,7 @@ KINDS = {
 KINDS_OF_NODE = {
     "needed": ("Gauge", "issuer_stream_needed_offset", "The oldest message of the stream that this machine needs"),
     "read": ("Gauge", "issuer_stream_read_offset", "The last message of the stream that was read"),
+    "passed_over": ("Counter", "issuer_stream_passed_over", "Messages of the stream that no node wrote"),
     "uncounted": ("Gauge", "issuer_uncounted_seconds", "For how long records of the host wait and none counts"),
     "serving": ("Gauge", "issuer_partition_serving", "1 if this machine's barrier counts"),
     "stopped": ("Gauge", "issuer_partition_stopped", "1 if the partition is stopped here until somebody acts"),

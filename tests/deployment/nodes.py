@@ -1,4 +1,5 @@
 """What a node begins with (deploy/node): NODE.json, positions beside journals, and journals that it truncates."""
+import hashlib
 import json
 import os
 from collections.abc import Callable, Iterator, Sequence
@@ -11,10 +12,11 @@ from issuer_host.facts.refusal import Refusal
 from issuer_host.facts.statuses import Status
 from issuer_host.files.seals import Seals
 from issuer_host.orders.intent_log import MOST_LINES
-from issuer_host.replication import positions
+from issuer_host.replication import cluster_keys, positions
 from issuer_host.replication.journal_files import JournalFiles
 from issuer_host.replication.messages import Barrier, LOGS, NOTES, Record
 from issuer_host.replication.notes import Notes, read_notes
+from issuer_host.replication.record_origins import FedLines, Origin, RefusedRecord
 from runs import PANS, SHARDS, write_bytes, write_text
 
 BARRIER = Barrier(3, "c0ffee", "m1")
@@ -23,7 +25,8 @@ BARRIER = Barrier(3, "c0ffee", "m1")
 def node_of(host: Host, **more: Any) -> "dict[str, Any]":
     """Returns a NODE.json of one partition."""
     one = {"number": 0, "configuration": host.config, "journal": host.name}
-    return {"machine": "m1", "broker_file": f"{host.folder}/url", "partitions": [one], **more}
+    files = {"broker_file": f"{host.folder}/url", "cluster_key_file": f"{host.folder}/cluster-key"}
+    return {"machine": "m1", **files, "partitions": [one], **more}
 
 
 def written(host: Host, told: object) -> str:
@@ -39,6 +42,7 @@ def wrong_files(host: Host) -> "list[tuple[object, str]]":
         ([], "is no object"),
         ({**right, "more": 1}, "no member more"),
         ({name: value for name, value in right.items() if name != "machine"}, "lacks machine"),
+        ({name: value for name, value in right.items() if name != "cluster_key_file"}, "lacks cluster_key_file"),
         ({**right, "machine": "a b"}, "a machine's name"),
         ({**right, "machine": 1}, "of another kind"),
         ({**right, "figures": "9"}, "of another kind"),
@@ -58,6 +62,40 @@ def refuses_a_wrong_node_file(tally: Tally) -> None:
             is_refused(tally, run(tally, "node", written(host, told)), f"{told}", said)
         is_refused(tally, run(tally, "node", f"{host.folder}/none"), "no file", "can't be read")
         tally.expect(run(tally, "node").returncode, Status.USAGE, "the status without words")
+
+
+def starts_with_a_key_of_its_own_alone(tally: Tally) -> None:
+    """A node without the cluster's key, or with one that others may open or that is none, ends with 78."""
+    right = "00" * 32
+    wrong = ("", "\n", right[:-2], right[:-1], f"{right}\r\n", f"{right}\n\n", f"{right}\n{right}\n", right + " ")
+    with new_host(tally) as host:
+        path, key = written(host, node_of(host)), f"{host.folder}/cluster-key"
+        is_refused(tally, run(tally, "node", path), "no key", "cluster-key can't be read", "docs/MACHINES.md")
+        for text in (*wrong, "".join(f"{number:064x}\n" for number in range(5))):
+            write_text(host.folder, "cluster-key", text)
+            os.chmod(key, 0o600)
+            is_refused(tally, run(tally, "node", path), f"the key {text!r}", "has a line for each key")
+        write_text(host.folder, "cluster-key", f"{right}\n")
+        for mode in (0o644, 0o640, 0o604, 0o660):
+            os.chmod(key, mode)
+            is_refused(tally, run(tally, "node", path), f"a key of mode {mode:o}", "so that others could read it")
+        os.remove(key)
+        os.mkfifo(key, 0o600)
+        is_refused(tally, run(tally, "node", path), "a pipe", "is no regular file")
+
+
+def reads_keys(tally: Tally) -> None:
+    """Keys are read as they are written, the one that signs first; a message names one by its fingerprint alone."""
+    keys = (bytes(range(32)), bytes(range(100, 200)))
+    with new_host(tally) as host:
+        for text in ("".join(f"{key.hex()}\n" for key in keys), "\n".join(key.hex().upper() for key in keys)):
+            write_text(host.folder, "cluster-key", text)
+            os.chmod(f"{host.folder}/cluster-key", 0o400)
+            found = cluster_keys.read(f"{host.folder}/cluster-key")
+            tally.expect(found.keys, keys, f"the keys of {text!r}")
+            os.chmod(f"{host.folder}/cluster-key", 0o600)
+    told = hashlib.sha256(b"key of a cluster\n" + keys[0]).hexdigest()[:16]
+    tally.expect(cluster_keys.fingerprint_of(keys[0]), told, "the fingerprint")
 
 
 def begins_each_partition_once(tally: Tally) -> None:
@@ -254,10 +292,38 @@ def refuses_a_record_that_is_none(tally: Tally) -> None:
         positions.begin(host.begun().name)
         for record in (Record(0, 0, "s nothing"), Record(0, 0, f"s {PANS[1]}ffff 00 9")):
             journals = files_of(host).journals
+            journals.origin = Origin("stream", 17, "m2")
             journals.put(record)
-            tally.holds("aren't taken" in refused(journals.end_standby_now), f"{record} is refused")
+            said = refused(journals.end_standby_now)
+            tally.holds(
+                said.startswith(
+                    "message 17 of stream, which m2 wrote, has a record that this machine refuses: standby"
+                ),
+                f"{record} is refused: {said}",
+            )
+            tally.holds(
+                "stop 11 1" in said and "docs/OPERATIONS.md" in said, f"what standby said, and what to do: {said}"
+            )
         journals = files_of(host).journals
-        tally.holds("other configurations" in refused(lambda: journals.put(Record(SHARDS, 0, "s"))), "another shard")
+        try:
+            journals.put(Record(SHARDS, 0, "s"))
+            tally.fail("a record of another shard is put")
+        except RefusedRecord as fault:
+            tally.holds("no journal here" in str(fault), f"another shard: {fault}")
+
+
+def knows_the_message_of_a_line(tally: Tally) -> None:
+    """The message is found from which a run of standby got a line, until a position is past it."""
+    lines, origins = FedLines(), [Origin("stream", offset, f"m{offset}") for offset in range(3)]
+    for line, origin in ((1, origins[0]), (2, origins[0]), (3, origins[1]), (5, origins[2])):
+        lines.add(line, origin)
+    expected = [origins[0], origins[0], origins[1], origins[2], origins[2], None]
+    tally.expect([lines.of(line) for line in range(1, 7)], expected, "the messages of the lines")
+    tally.expect(len(lines.ends), 3, "what is kept of them")
+    lines.forget(1)
+    tally.expect((len(lines.ends), lines.of(4)), (1, origins[2]), "what is kept past a position")
+    lines.begin()
+    tally.expect(lines.of(1), None, "a line of the next run")
 
 
 def notes_are_kept(tally: Tally) -> None:
@@ -287,6 +353,8 @@ CHECKS = [
     check_of(body)
     for body in (
         refuses_a_wrong_node_file,
+        starts_with_a_key_of_its_own_alone,
+        reads_keys,
         begins_each_partition_once,
         begins_with_no_old_journal_uncopied,
         refuses_a_wrong_position,
@@ -295,6 +363,7 @@ CHECKS = [
         only_a_node_appends_to_replicated_journals,
         truncates_what_does_not_count,
         refuses_a_record_that_is_none,
+        knows_the_message_of_a_line,
         notes_are_kept,
     )
 ]

@@ -112,7 +112,8 @@ mv /run/keys/0.json /etc/issuer/0.json
 issuer-queues --partitions 1 --streams --broker-file /etc/issuer/broker
 install -d -m 700 -o issuer -g issuer /var/lib/issuer/node /run/issuer-node
 cp /mnt/node.json /etc/issuer/node.json
-install -m 400 -o issuer -g issuer -t /run/issuer-node /etc/issuer/*.json /etc/issuer/broker
+(umask 077; openssl rand -hex 32 > /etc/issuer/cluster-key)
+install -m 400 -o issuer -g issuer -t /run/issuer-node /etc/issuer/*.json /etc/issuer/broker /etc/issuer/cluster-key
 runuser -u issuer -- issuer-node --begin /run/issuer-node/node.json
 systemctl start issuer-node
 check a_node_starts "$(systemctl is-active issuer-node)" active

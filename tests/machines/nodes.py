@@ -8,6 +8,7 @@ import signal
 import socket
 import subprocess
 import time
+import urllib.request
 from collections.abc import Callable, Iterator, Sequence
 from typing import Any, NamedTuple, Optional
 
@@ -15,16 +16,18 @@ import pika
 
 from issuer_host.broker import topology
 from issuer_host.broker.publisher import Asker, Unanswered
+from issuer_host.broker.wire import decode_no_headers
 from issuer_host.facts.answers import RECORDED
 from issuer_host.facts.journals import StatusSet, journal_path, record_of, records_of
 from issuer_host.facts.partitions import partition_configuration, partition_journal
 from issuer_host.facts.paths import HOME
 from issuer_host.orders.intent_log import Begun, WorkFile
-from issuer_host.replication.messages import LOGS, Message, Record, parse
+from issuer_host.replication.message_mac import MessageMacs
+from issuer_host.replication.messages import Barrier, LOGS, Message, MessageFault, Record
 from issuer_host.replication.notes import read_notes
 from issuer_host.replication.rule import Count
 from trials.bridges.cards import distinct_lines, whole_configuration, with_account_row
-from trials.bridges.private_broker import PrivateBroker
+from trials.bridges.private_broker import PrivateBroker, free_port
 
 NODE = os.path.join(HOME, "deploy/node")
 QUEUES = os.path.join(HOME, "deploy/queues")
@@ -35,6 +38,8 @@ CARDS, SHARDS = 8, 2
 SECONDS = 60.0
 LOOK_SECONDS = 0.05
 TRIES = 5
+# The key that the nodes of all rooms share.
+KEY = bytes(range(32))
 
 
 class Machine:
@@ -54,8 +59,21 @@ class Machine:
         os.makedirs(self.room)
         self.log = os.path.join(self.room, "log")
         self.file = os.path.join(self.room, "node.json")
-        told = {"machine": name, "broker_file": url_file, "program": program, "figures": 0}
+        self.key_file = os.path.join(self.room, "cluster-key")
+        self.put_keys(KEY)
+        told = {
+            "machine": name,
+            "broker_file": url_file,
+            "cluster_key_file": self.key_file,
+            "program": program,
+            "figures": 0,
+        }
         self.write({**told, "partitions": [self.partition(number) for number in partitions]})
+
+    def put_keys(self, *keys: bytes) -> None:
+        """Writes the keys of the cluster, the one that signs first."""
+        with open(os.open(self.key_file, os.O_CREAT | os.O_TRUNC | os.O_WRONLY, 0o600), "w", encoding="ascii") as text:
+            text.writelines(f"{key.hex()}\n" for key in keys)
 
     def write(self, told: dict[str, Any]) -> None:
         with open(self.file, "w", encoding="utf-8") as text:
@@ -166,6 +184,25 @@ class Machine:
             found.append(list(records_of(path)) if os.path.getsize(path) else [])
         return found
 
+    def notes(self, number: int) -> list[str]:
+        return read_notes(self.journal(number))[1]
+
+    def listen(self) -> None:
+        """Gives the node a port for its figures, from its next start on."""
+        self.write({**self.told(), "figures": free_port()})
+
+    def figure(self, name: str, number: int) -> float:
+        """Returns a figure of a partition; -1 if there is none."""
+        with contextlib.suppress(OSError), urllib.request.urlopen(
+            f"http://127.0.0.1:{self.told()['figures']}/metrics", timeout=SECONDS
+        ) as answer:
+            found = re.search(rf'^{name}{{partition="{number}"}} ([0-9.]+)', answer.read().decode(), re.MULTILINE)
+            return float(found[1]) if found else -1.0
+        return -1.0
+
+    def runs(self) -> bool:
+        return self.process is not None and self.process.poll() is None
+
     def begun_works(self, number: int) -> list[Begun]:
         """Returns the declines that were begun, by the notes of this machine, and that aren't ended."""
         known = WorkFile(self.journal(number))
@@ -209,6 +246,8 @@ class Room:
         # What the command of each node stands behind.
         self.before: Sequence[str] = ()
         self.machines: list[Machine] = []
+        # The keys of those who read the streams here, the one that signs first.
+        self.keys: Sequence[bytes] = (KEY,)
         # By partition all answers, and by request and partition what all its answers said.
         self.answers: dict[int, list[str]] = {}
         self.replies: dict[tuple[int, str], set[str]] = {}
@@ -218,6 +257,7 @@ class Room:
         self.declare()
         for number in range(machines):
             machine = self.machine(f"m{number + 1}")
+            machine.listen()
             machine.run("--begin", machine.file)
             machine.start(wrong)
         is_served = wait_until(lambda: all(self.is_served(number) for number in self.partitions), 2 * SECONDS)
@@ -318,10 +358,44 @@ class Room:
         with self.channel() as channel:
             (channel.queue_bind if is_bound else channel.queue_unbind)(stream, topology.RECORDS, stream)
 
+    def macs(self, number: int) -> MessageMacs:
+        return MessageMacs(topology.stream_of(number), self.keys)
+
     def write(self, number: int, text: str) -> None:
-        """Writes a message to a partition's stream."""
+        """Writes a message to a partition's stream, as who has the cluster's key."""
+        self.write_bytes(number, self.macs(number).signed(text))
+
+    def write_bytes(self, number: int, body: bytes, headers: Optional[dict[str, Any]] = None) -> None:
+        """Writes a message as it is to a partition's stream, with headers if there are some."""
         with self.channel() as channel:
-            channel.basic_publish(topology.RECORDS, topology.stream_of(number), text.encode())
+            properties = pika.BasicProperties(headers=headers)
+            channel.basic_publish(topology.RECORDS, topology.stream_of(number), body, properties)
+
+    def write_all(self, number: int, bodies: Sequence[bytes]) -> None:
+        """Writes many messages to a partition's stream."""
+        with self.channel() as channel:
+            for body in bodies:
+                channel.basic_publish(topology.RECORDS, topology.stream_of(number), body)
+
+    def machines_but(self, machine: Machine) -> list[Machine]:
+        return [other for other in self.machines if other is not machine]
+
+    def are_kept(self, number: int) -> bool:
+        """Whether the positions of all machines name the stream's last message of a node, or a later one."""
+        offsets = [offset for offset, message in self.placed(number)]
+        return all(machine.position(number)["offset"] >= offsets[-2] for machine in self.machines)
+
+    def last_barrier(self, number: int) -> Barrier:
+        """Returns the last barrier that counts in a partition's stream."""
+        count = Count()
+        for message in self.messages(number):
+            count.take(message)
+        return count.barrier
+
+    def are_equal(self, number: int) -> bool:
+        """Whether all machines' journals come to what counts in a partition's stream."""
+        history = self.history(number)
+        return all(wait_until(lambda: one.records(number) == history.records, 30) for one in self.machines)
 
     def publish(self, number: int, lines: Sequence[str]) -> None:
         """Puts requests into a partition's queue whose answers nobody reads."""
@@ -358,21 +432,34 @@ class Room:
             machine.run("--begin", machine.file)
             machine.start()
 
-    def messages(self, number: int) -> list[Message]:
-        """Returns all messages of a partition's stream, up to one that this writes."""
-        end = f"mark end.{time.monotonic_ns()}\n"
-        self.write(number, end)
+    def bodies(self, number: int) -> list[tuple[bytes, bool]]:
+        """Returns all messages of a partition's stream as they are, up to one that this writes, and who has headers."""
+        end = self.macs(number).signed(f"mark end.{time.monotonic_ns()}\n")
+        self.write_bytes(number, end)
+        decode_no_headers()
         found = []
         with self.channel() as channel:
             channel.basic_qos(prefetch_count=100)
             words = {"arguments": {"x-stream-offset": "first"}, "inactivity_timeout": SECONDS}
-            for method, _, body in channel.consume(topology.stream_of(number), **words):
+            for method, properties, body in channel.consume(topology.stream_of(number), **words):
                 assert method is not None, "the stream's end doesn't come"
-                found.append(parse(body.decode()))
+                found.append((body, properties.has_headers))
                 channel.basic_ack(method.delivery_tag)
-                if body.decode() == end:
+                if body == end:
                     break
         return found
+
+    def placed(self, number: int) -> list[tuple[int, Message]]:
+        """Returns the messages of a partition's stream that a node wrote, each with its offset."""
+        found = []
+        for offset, (body, has_headers) in enumerate(self.bodies(number)):
+            with contextlib.suppress(MessageFault):
+                found.append((offset, self.macs(number).message_of(body, has_headers)))
+        return found
+
+    def messages(self, number: int) -> list[Message]:
+        """Returns the messages of a partition's stream that a node wrote."""
+        return [message for _, message in self.placed(number)]
 
     def history(self, number: int) -> History:
         """Returns what counts in a partition's stream."""

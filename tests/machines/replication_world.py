@@ -2,16 +2,41 @@
 
 The broker takes what each bridge wrote in that bridge's order, at any time, loses it, or takes it twice. It calls a
 bridge while another still believes that it is the active one. A bridge reads as late as it likes. A machine is killed,
-and begins again from its journals and a place in the stream that it kept some time before.
+and begins again from its journals and a place in the stream that it kept some time before. A stranger, who reads the
+stream and has no key of the cluster, writes to it.
 """
 import collections
 from collections.abc import Callable, Iterator
-from typing import NamedTuple, Optional
+from typing import NamedTuple, Optional, Protocol
 
-from issuer_host.replication.messages import Barrier, LOGS, Message, Record
+from issuer_host.replication.message_mac import MessageMacs
+from issuer_host.replication.messages import Barrier, LOGS, Message, MessageFault, Record, Records, text_of
 from issuer_host.replication.rule import Answer, Bridge, Count, State
 
 COUNTERS = ("7", "8", "9")
+KEY = bytes(range(32))
+STREAM, OTHER_STREAM = "issuer.requests.0.records", "issuer.requests.1.records"
+
+
+class Body(NamedTuple):
+    """A message as it is in the stream."""
+
+    content: bytes
+    has_headers: bool = False
+
+
+class Opener(Protocol):
+    """What signs and opens the messages of the stream."""
+
+    def signed(self, text: str) -> bytes:
+        """Returns the body of a message."""
+
+    def message_of(self, body: bytes, has_headers: bool = False) -> Message:
+        """Returns what a node wrote. A message that counts nowhere is a MessageFault."""
+
+
+# A stranger writes bodies of these kinds.
+FORGERIES = ("text", "barrier", "records", "header", "moved", "again")
 
 
 class Broken(Exception):
@@ -42,7 +67,7 @@ class Node:
         self.number = number
         self.kind = bridge
         self.held: list[list[Record]] = [[] for _ in range(LOGS)]
-        self.written: collections.deque[Message] = collections.deque()
+        self.written: collections.deque[Body] = collections.deque()
         self.position = 0
         self.kept = Kept(0, Count().barrier, (0,) * LOGS)
         self.names = 0
@@ -78,7 +103,7 @@ class Node:
 
     # What it does outside.
     def publish(self, message: Message) -> None:
-        self.written.append(message)
+        self.written.append(self.world.signed(message))
 
     def new_name(self) -> str:
         self.names += 1
@@ -99,9 +124,10 @@ class Node:
 
     # What happens to it.
     def read(self) -> None:
-        message = self.world.stream[self.position]
+        message = self.world.opened(self.world.stream[self.position])
         self.position += 1
-        self.bridge.read(message)
+        if message is not None:
+            self.bridge.read(message)
 
     def keep(self) -> None:
         self.kept = Kept(self.position, self.bridge.count.barrier, tuple(self.bridge.count.records))
@@ -156,9 +182,12 @@ class Node:
 class World:
     """Machines that share a stream, and the replies that they sent."""
 
-    def __init__(self, bridge: type[Bridge], machines: int = 2, shards: int = 1) -> None:
+    def __init__(
+        self, bridge: type[Bridge], machines: int = 2, shards: int = 1, macs: Opener = MessageMacs(STREAM, [KEY])
+    ) -> None:
         self.shards = shards
-        self.stream: list[Message] = []
+        self.macs = macs
+        self.stream: list[Body] = []
         self.replies: dict[str, str] = {}
         # Reads each message as the broker takes it.
         self.truth = bridge("truth", Count(), Shelf(), Nobody()).count
@@ -178,20 +207,56 @@ class World:
         if [record.text for record in self.history[shard][place : place + 1]] != [answer.text]:
             raise Broken(f"a reply of {answer.text}, which doesn't count")
 
+    def signed(self, message: Message) -> Body:
+        return Body(self.macs.signed(text_of(message)))
+
+    def opened(self, body: Body) -> Optional[Message]:
+        """Returns what a message says, or None if it counts nowhere."""
+        try:
+            return self.macs.message_of(body.content, body.has_headers)
+        except MessageFault:
+            return None
+
     def take(self, node: Node) -> None:
         """The broker takes a message."""
-        message = node.written.popleft()
-        self.stream.append(message)
-        for record in self.truth.take(message):
+        self.append(node.written.popleft())
+
+    def append(self, body: Body) -> None:
+        """The stream's next message."""
+        self.stream.append(body)
+        message = self.opened(body)
+        for record in self.truth.take(message) if message else ():
             if record.place != len(self.history[record.shard]):
                 raise Broken(f"{record} counts behind {len(self.history[record.shard])} records")
             self.history[record.shard].append(record)
 
     def take_twice(self, node: Node) -> None:
         """The broker takes a message, and will take it once more."""
-        message = node.written[0]
+        body = node.written[0]
         self.take(node)
-        node.written.append(message)
+        node.written.append(body)
+
+    def forge(self, kind: str) -> None:
+        """A stranger writes a message. What counts stays as it is."""
+        before = self.truth.barrier, list(self.truth.records)
+        self.append(self.forged(kind))
+        if (self.truth.barrier, self.truth.records) != before:
+            raise Broken(f"a message of a stranger counts: {self.stream[-1]}")
+
+    def forged(self, kind: str) -> Body:
+        """Returns what would count next if a node had written it, or what a node wrote before."""
+        if kind == "text":
+            return Body(b"this is no message\n")
+        if kind == "again":
+            return self.stream[len(self.stream) // 2] if self.stream else Body(b"")
+        barrier = Barrier(self.truth.barrier.number + 1, "stranger", "m9")
+        record = Record(0, self.truth.records[0], "7:stranger")
+        message: Message = Records(self.truth.barrier.name or "none", 1, (record,)) if kind == "records" else barrier
+        if kind == "header":
+            return Body(MessageMacs(STREAM, [KEY]).signed(text_of(message)), True)
+        if kind == "moved":
+            return Body(MessageMacs(OTHER_STREAM, [KEY]).signed(text_of(message)))
+        return Body(MessageMacs(STREAM, [bytes(32)]).signed(text_of(message)))
 
     def steps(self) -> Iterator[Step]:
         """What can happen next, but for machines and connections that are lost."""
@@ -220,6 +285,7 @@ class World:
             "write_again": node.bridge.write_again,
             "kill": node.begin_again,
             "disconnect": node.lose_connection,
+            "forge": lambda: self.forge(step.counter),
         }
         calls[step.name]()
         self.check()

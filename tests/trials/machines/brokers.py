@@ -15,8 +15,10 @@ from typing import Optional
 
 from issuer_host.broker.rules import NODE_MAY, OPERATOR_MAY, PUBLISHER_LIMITS, PUBLISHER_MAY
 from issuer_host.broker.settings import Permissions
-from issuer_host.broker.topology import MAX_MESSAGE
+from issuer_host.broker.topology import MAX_MESSAGE, stream_of
 from issuer_host.facts.paths import HOME
+from issuer_host.replication import cluster_keys
+from issuer_host.replication.message_mac import MessageMacs
 from trials.bridges.private_broker import COMMAND, CONTROL, LOOK_SECONDS
 from trials.machines.network import Machine, Network
 
@@ -198,14 +200,24 @@ class Brokers:
         """Returns the broker file of a user for the node of a machine."""
         return os.path.join(self.folder, machine.name, f"{user}.url")
 
+    def key_file(self, machine: Machine) -> str:
+        """Returns the file with the key that the nodes of the machines share."""
+        return os.path.join(self.folder, machine.name, "cluster-key")
+
+    def macs(self, partition: int) -> MessageMacs:
+        """Returns what signs and opens the messages of a partition's stream."""
+        keys = cluster_keys.read(self.key_file(self.network.machines[0])).keys
+        return MessageMacs(stream_of(partition), keys)
+
     def write_files(self) -> None:
         passwords = {user: secrets.token_hex(16) for user in USERS}
         write(self.definitions, json.dumps(definitions_of(passwords)))
-        cookie = secrets.token_hex(16)
+        cookie, key = secrets.token_hex(16), secrets.token_hex(32)
         for node in self.nodes:
             # (the others have the users from the first one)
             is_first = node is self.nodes[0]
             node.write_files(cookie, self.tick, f"load_definitions = {self.definitions}\n" if is_first else "")
+            write(self.key_file(node.machine), f"{key}\n")
             for user, password in passwords.items():
                 url = f"amqp://{user}:{password}@{node.machine.address}:{PORT}/%2F\n"
                 write(self.url_file(user, node.machine), url)

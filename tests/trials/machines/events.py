@@ -9,6 +9,7 @@ from typing import NamedTuple
 import pika
 
 from issuer_host.broker import topology
+from issuer_host.replication.message_mac import MessageMacs
 from issuer_host.replication.messages import Barrier, Records
 from trials.machines.brokers import NODE
 from trials.machines.history import Reader, last_barrier, next_record
@@ -180,26 +181,26 @@ def go_on_deposed(machines: Machines, dice: random.Random) -> None:
 
 
 def haunt(machines: Machines, partition: int) -> None:
-    """Writes what a deposed bridge may write: a barrier without a greater number, and records that come too late."""
+    """Writes what a deposed bridge may write: a barrier of an old number, and records that come too late."""
     for attempt in range(GHOST_TRIES):
         file = machines.brokers.url_file(NODE, machines.network.machines[attempt % len(machines.network.machines)])
         try:
-            write_ghosts(file, partition)
+            write_ghosts(file, machines.brokers.macs(partition))
             return
         except (pika.exceptions.AMQPError, OSError, RuntimeError):
             time.sleep(1.0)
     raise RuntimeError("the stream can't be written")
 
 
-def write_ghosts(file: str, partition: int) -> None:
+def write_ghosts(file: str, macs: MessageMacs) -> None:
     """Writes what counts nowhere, and reads that it is there."""
-    reader = Reader(file, partition)
+    reader = Reader(file, macs)
     messages = reader.read()
     reader.close()
     barrier = last_barrier(messages)
     record = next_record(messages, STATUS)
     name = f"ghost.{uuid.uuid4().hex}"
-    reader = Reader(file, partition)
+    reader = Reader(file, macs)
     reader.write(Barrier(barrier.number, name, "m0"))
     reader.write(Records(name, 1, (record,)))
     late = Records(f"deposed.{uuid.uuid4().hex}", 1, (record,))

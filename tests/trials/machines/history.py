@@ -1,4 +1,5 @@
 """A partition's stream, read whole by the rule alone, and the journals of all machines beside it."""
+import contextlib
 import os
 import time
 import uuid
@@ -8,8 +9,10 @@ from typing import Any
 import pika
 
 from issuer_host.broker import topology
+from issuer_host.broker.wire import decode_no_headers
 from issuer_host.facts.journals import PAN_DIGITS, card_of_record, journal_path, records_of
-from issuer_host.replication.messages import Barrier, Mark, Message, NOTES, Record, parse, text_of
+from issuer_host.replication.message_mac import MessageMacs
+from issuer_host.replication.messages import Barrier, Mark, Message, MessageFault, NOTES, Record, text_of
 from issuer_host.replication.notes import read_notes
 from issuer_host.replication.rule import Count
 from trials.bridges.farm import SHARDS
@@ -33,26 +36,29 @@ class Reader:
     A confirm says nothing, and may never come: what was written is there once it was read.
     """
 
-    def __init__(self, file: str, partition: int) -> None:
-        self.stream = topology.stream_of(partition)
+    def __init__(self, file: str, macs: MessageMacs) -> None:
+        decode_no_headers()
+        self.macs = macs
+        self.stream = macs.stream
         self.connection = pika.BlockingConnection(topology.parameters_of(file))
         self.writing: Any = self.connection.channel()
 
     def write(self, message: Message) -> None:
-        body = text_of(message).encode()
+        body = self.macs.signed(text_of(message))
         self.writing.basic_publish(topology.RECORDS, self.stream, body, pika.BasicProperties(delivery_mode=2))
 
     def read(self) -> list[Message]:
-        """Returns all messages up to a mark of its own, which is written again while it doesn't come.
+        """Returns all messages of nodes up to a mark of its own, which is written again while it doesn't come.
 
         (To cancel a consumer would reject what is on its way, which streams don't bear: the connection is closed.)
         """
         mark = Mark(f"reader.{uuid.uuid4().hex}")
         found: list[Message] = []
 
-        def take(channel: Any, method: Any, _: object, body: bytes) -> None:
+        def take(channel: Any, method: Any, properties: Any, body: bytes) -> None:
             channel.basic_ack(method.delivery_tag)
-            found.append(parse(body.decode()))
+            with contextlib.suppress(MessageFault):
+                found.append(self.macs.message_of(body, properties.has_headers))
 
         reading: Any = self.connection.channel()
         reading.basic_qos(prefetch_count=PREFETCH)
@@ -79,7 +85,7 @@ def messages_of(machines: Machines, partition: int) -> list[Message]:
     for attempt in range(TRIES):
         file = machines.brokers.url_file(NODE, machines.network.machines[attempt % len(machines.network.machines)])
         try:
-            reader = Reader(file, partition)
+            reader = Reader(file, machines.brokers.macs(partition))
             try:
                 return reader.read()
             finally:

@@ -109,6 +109,7 @@ class Machines:
         found: dict[str, object] = {
             "machine": machine.name,
             "broker_file": self.brokers.url_file(NODE, machine),
+            "cluster_key_file": self.brokers.key_file(machine),
             "partitions": partitions,
             "figures": 0,
         }
