@@ -15,6 +15,7 @@ WITHOUT_PROGRAM = (
     "tests/sources/crates",
     "tests/sources/unused",
     "tests/sources/sinks",
+    "tests/pages/field_definitions",
     "tests/pages/figures",
     "tests/program/make_vectors --check",
     "tests/program/kcv",
