@@ -44,7 +44,7 @@ class LiveAsker(Asker):
         """Lines come by `begin` alone."""
 
     def begin(self, question: Question) -> None:
-        found = Published(question.number, question.request.line, question.partition)
+        found = Published(question.number, question.request.body, question.partition)
         self.asked[found.correlation] = found
         self.connection.published[question.number] = found.correlation
         if self.link.channel:

@@ -44,7 +44,7 @@ CHOICES = (
     Choice("conversion", ("none", "by the link"), "is_converted", "none"),
 )
 LENGTHS = ("ascii", "bcd", "binary")
-OPTIONAL = {it.member for it in CHOICES if it.default is not None}
+OPTIONAL = {it.member for it in CHOICES if it.default is not None} | {"declines"}
 NEEDED = {"name", "edition", "lengths", "echo", "network", "elements", *(it.member for it in CHOICES)} - OPTIONAL
 
 
@@ -73,7 +73,8 @@ class Dialect:
     """A dialect.
 
     `echo` are the elements that a response has from its request. `accepted` are the values of `network_element` with
-    which a network message is accepted. Where `is_converted`, the link may have converted element 4.
+    which a network message is accepted. `declines` has the statuses by which the host declines what the account does,
+    by the code in element 39 of the request. Where `is_converted`, the link may have converted element 4.
     """
 
     name: str
@@ -89,6 +90,7 @@ class Dialect:
     echo: Tuple[int, ...]
     network_element: int
     accepted: Tuple[str, ...]
+    declines: Mapping[str, int]
     formats: Mapping[int, Format]
 
 
@@ -168,6 +170,7 @@ def dialect_of(found: Any) -> Dialect:
         echo=echo_of(found["echo"], formats),
         network_element=network_element,
         accepted=accepted,
+        declines=declines_of(found.get("declines", {}), formats[CODE]),
         formats=formats,
         **{field: bool(value) for field, value in chosen.items()},
     )
@@ -231,3 +234,11 @@ def network_of(found: Any, formats: Mapping[int, Format]) -> Tuple[int, Tuple[st
     if not isinstance(found["accepted"], list) or not all(isinstance(it, str) for it in found["accepted"]):
         raise BadDialect("`accepted` is no list of texts")
     return found["element"], tuple(found["accepted"])
+
+
+def declines_of(found: Any, code: Format) -> Dict[str, int]:
+    """The statuses of declines by their codes."""
+    is_object = isinstance(found, dict) and all(type(it) is int and 0 <= it <= 9 for it in found.values())
+    if not is_object or not all(len(it) == code.size and it.isalnum() for it in found):
+        raise BadDialect(f"`declines` is no object of codes of {code.size} places with a card's status, 0 to 9, each")
+    return dict(found)

@@ -17,6 +17,7 @@ from issuer_host.gateway.figures import Figures
 from issuer_host.gateway.figures_page import FiguresPage
 from issuer_host.gateway.log import Limited, NAME, tell
 from issuer_host.gateway.message import Codec
+from issuer_host.gateway.order_router import OrderRouter
 from issuer_host.gateway.port import Port
 from issuer_host.gateway.requests import RequestLine
 from issuer_host.gateway.shares import shares_of
@@ -107,6 +108,8 @@ class Gateway:
         self.port = Port(loop, Admission(limits, by_tls), context, self.figures, Limited(PORT_LINES_A_SECOND))
         # The names of the partitions' journals; none where the hosts are behind a broker.
         self.journals: list[str] = []
+        # Takes orders where the hosts are the gateway's own.
+        self.orders: Optional[OrderRouter] = None
         self.connections: set[Connection] = set()
         # Connections that have more messages, in the order in which they came to wait.
         self.waiting: dict[Connection, None] = {}
@@ -160,6 +163,8 @@ class Gateway:
         for number in (signal.SIGTERM, signal.SIGINT):
             self.loop.add_signal_handler(number, self.stop)
         await self.start_hosts()
+        if self.orders is not None:
+            self.orders.open()
         refusals = [host.refusal for host in self.hosts]
         if None not in refusals:
             tell("no host can be started")
@@ -234,6 +239,8 @@ class Gateway:
         """Answers what is in flight, within its time limit, and ends connections and hosts."""
         service_manager.notify(NAME, "STOPPING=1")
         tell(f"ends: {len(self.traffic.open)} messages are in flight")
+        if self.orders is not None:
+            self.orders.end()
         self.port.close()
         for connection in list(self.connections):
             connection.take()

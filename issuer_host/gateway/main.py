@@ -17,6 +17,7 @@ partition's number goes. By the second form the hosts are behind the broker that
 --frame          bytes of a message (4096), --frame-seconds for a torn frame, or for a peer that doesn't read (10),
 --idle-seconds   after which a silent connection is closed (900; 0: never)
 --callers        of each host (1), --window lines that a host has at a time (64)
+--orders         the path of a socket at which it takes orders (deploy/order --socket); none if it is left out
 --figures        the port of Prometheus' figures on the loopback; none where it is 0 (0)
 
 docs/INTEGRATION.md says what becomes of each message. At SIGTERM it answers what it has taken, and ends with 0. It ends
@@ -33,6 +34,7 @@ from issuer_host.gateway import options as options_of
 from issuer_host.gateway.gateway import Gateway, Partition
 from issuer_host.gateway.log import NAME, tell
 from issuer_host.gateway.options import BadOptions
+from issuer_host.gateway.order_router import OrderRouter
 from issuer_host.gateway.pipes import PipeHost
 from issuer_host.host.command import serving_command
 from issuer_host.host.line_host import HostSettings
@@ -68,6 +70,8 @@ async def run(words: Sequence[str]) -> int:
 
 def brokered(gateway: Gateway, options: argparse.Namespace) -> list[Partition]:
     """The partitions behind the broker."""
+    if options.orders:
+        raise BadOptions("--orders is for hosts of the gateway's own: behind a broker the bridges take the orders")
     try:
         from issuer_host.gateway.broker_hosts import brokered_hosts
     except ImportError as fault:
@@ -78,11 +82,12 @@ def brokered(gateway: Gateway, options: argparse.Namespace) -> list[Partition]:
 
 def pipe_hosts(gateway: Gateway, options: argparse.Namespace) -> list[Partition]:
     """A host by pipes for each partition."""
-    found: list[Partition] = []
+    found: list[PipeHost] = []
     for number, (config, journal) in enumerate(options_of.partition_files(options)):
         command = serving_command(config, journal, options.callers, options.program or "")
         name = f"{NAME}: partition {number}"
         gateway.journals.append(journal)
         settings = HostSettings(command, journal, name, options.window, is_batched=True)
         found.append(PipeHost(gateway.loop, settings, gateway.traffic, gateway.figures.of_host(number, journal)))
-    return found
+    gateway.orders = OrderRouter(gateway.loop, options.orders, found)
+    return [*found]

@@ -1,6 +1,7 @@
 """A partition's host on this machine, by pipes: requests, accounts' declines and orders go to one supervised host."""
 
 import asyncio
+from collections.abc import Callable
 from typing import Optional
 
 from issuer_host.facts.statuses import NOT_AGAIN
@@ -9,6 +10,7 @@ from issuer_host.gateway.figures import PartitionFigures
 from issuer_host.gateway.traffic import Question, Traffic
 from issuer_host.host.line_host import HostSettings
 from issuer_host.host.lines import Entry
+from issuer_host.orders.order import Order
 from issuer_host.orders.partition_host import Serving
 
 
@@ -78,11 +80,19 @@ class PipeHost:
         self.was_tried()
 
     def why_no_order(self) -> str:
-        return ""
+        return "a person has to see to the partition's host" if self.refusal is not None else ""
 
     def was_tried(self) -> None:
         if not self.tried.done():
             self.tried.set_result(None)
+
+    # Orders
+
+    def has_host(self) -> bool:
+        return self.serving.has_host()
+
+    def order(self, order: Order, uid: int, reply: Callable[[str], object]) -> None:
+        self.serving.order(order, uid, reply)
 
     # What the gateway calls
 

@@ -8,6 +8,7 @@ from issuer_host.facts.request_lines import Torn, objects_of
 from issuer_host.gateway import currencies, mapping
 from issuer_host.gateway.dialect import Dialect
 from issuer_host.gateway.message import Message, SEPARATOR
+from issuer_host.orders.declines import body_of, decline_of
 
 # Chip data of a line.
 MAX_CHIP_DATA = MAX_OPTION_BYTES
@@ -27,6 +28,13 @@ class RequestLine(NamedTuple):
     pan: str
     # Whether the message is marked as a repeat of one that was sent before.
     is_repeat: bool = False
+    # The status by which the host declines it, if its account does; otherwise nothing.
+    decline: str = ""
+
+    @property
+    def body(self) -> str:
+        """What is put: the line, or the three lines of an account's decline."""
+        return body_of(self.line, int(self.decline)) if self.decline else self.line
 
 
 class Settled(NamedTuple):
@@ -59,7 +67,23 @@ def line_of(dialect: Dialect, message: Message, today: datetime.date) -> Union[R
     if len(data) > MAX_CHIP_DATA:
         return Settled(mapping.BAD_FORMAT, f"its chip data have {len(data)} bytes, and {MAX_CHIP_DATA} are the most")
     pan = of_chip[TAG_PAN] if TAG_PAN in of_chip else of_message[TAG_PAN]
-    return RequestLine(f"A {data.hex()}", pan.hex().rstrip("f"), mapping.is_repeat(message.kind))
+    line = RequestLine(f"A {data.hex()}", pan.hex().rstrip("f"), mapping.is_repeat(message.kind))
+    return declined(dialect, message, line) if dialect.declines else line
+
+
+def declined(dialect: Dialect, message: Message, line: RequestLine) -> Union[RequestLine, Settled]:
+    """The line, declined by the status of the code in element 39 if there is one."""
+    code = message.elements.get(mapping.CODE)
+    if not isinstance(code, str):
+        return line
+    if code not in dialect.declines:
+        return Settled(mapping.BAD_FORMAT, f"element 39 is no code by which this dialect declines: {code!r}")
+    try:
+        found = line._replace(decline=str(dialect.declines[code]))
+        is_whole = decline_of(found.body.encode("ascii")) is not None
+    except ValueError:
+        is_whole = False
+    return found if is_whole else Settled(mapping.BAD_FORMAT, "its account declines, and element 55 isn't whole")
 
 
 def first_objects(chip: bytes) -> dict[str, bytes]:

@@ -35,7 +35,7 @@ class Question(Entry):
         then: Callable[[Optional[str]], None],
     ) -> None:
         """`source` is the connection that asks, and `began` when the message's last byte had arrived."""
-        super().__init__(request.line.encode("ascii"), began)
+        super().__init__(request.body.encode("ascii"), began)
         self.number, self.request, self.partition, self.source = number, request, partition, source
         self.then = then
 

@@ -1,4 +1,4 @@
-"""Orders at the socket of a bridge, as a command gives them. Like `texts` it imports next to nothing."""
+"""Orders at a socket, as a command gives them. Like `texts` it imports next to nothing."""
 # (what `socket` stands over: half of the command's start would be the import of that one)
 import _socket
 
@@ -11,7 +11,7 @@ PIECE = 4096
 
 
 class Connection:
-    """A connection to a bridge's socket."""
+    """A connection to a socket of orders."""
 
     def __init__(self, path: str) -> None:
         self.to = _socket.socket(_socket.AF_UNIX, _socket.SOCK_STREAM | _socket.SOCK_CLOEXEC)
@@ -35,30 +35,30 @@ class Connection:
 
 
 def connected(path: str) -> "Connection | None":
-    """Returns a connection, or None if no bridge listens there."""
+    """Returns a connection, or None if nobody listens there."""
     try:
         return Connection(path)
     except OSError:
         return None
 
 
-def bridges_of(paths: list[str]) -> list[Connection]:
-    """Returns the bridges that listen, the one that serves first."""
-    found = [bridge for bridge in map(connected, paths) if bridge is not None]
+def takers_of(paths: list[str]) -> list[Connection]:
+    """Returns the connections to those that listen, the one that serves first."""
+    found = [taker for taker in map(connected, paths) if taker is not None]
     if not found:
         raise Refusal(
-            f"no bridge takes orders at {', '.join(paths)}: see that its unit runs, and that you are root or its user."
+            f"nobody takes orders at {', '.join(paths)}: see that the unit runs, and that you are root or its user."
             " Over journals that no host serves give --config and --journal"
         )
-    return sorted(found, key=lambda bridge: bridge.ask(HOST) != f"{HOST} 1")
+    return sorted(found, key=lambda taker: taker.ask(HOST) != f"{HOST} 1")
 
 
 def order(paths: list[str], number: str, lines: list[str]) -> None:
     """Orders lines one after another, and prints their answers."""
     before = []
-    bridges = bridges_of(paths)
+    takers = takers_of(paths)
     for at, line in enumerate(lines, 1):
-        reply = reply_of(bridges, f"{number}/{at}", line)
+        reply = reply_of(takers, f"{number}/{at}", line)
         word, _, said = reply.partition(" ")
         if word not in (DONE, BEFORE):
             again = f"; give the same order with --number {number}: no line is put twice"
@@ -72,11 +72,11 @@ def order(paths: list[str], number: str, lines: list[str]) -> None:
         tell("order", f"{some} done before, by the same number")
 
 
-def reply_of(bridges: list[Connection], number: str, line: str) -> str:
-    """Returns what became of a line: by the first bridge, or by the next one if that has no journals."""
+def reply_of(takers: list[Connection], number: str, line: str) -> str:
+    """Returns what became of a line: by the first one, or by the next one if that has no journals."""
     reply = ""
-    for bridge in bridges:
-        reply = bridge.ask(f"{ORDER} {number} {line}")
+    for taker in takers:
+        reply = taker.ask(f"{ORDER} {number} {line}")
         if reply and not reply.startswith(f"{NOT_DONE} known"):
             break
     return reply

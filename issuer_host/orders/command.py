@@ -6,8 +6,9 @@ usage: order --socket PATH .. [--number TEXT] < LINES
 The lines have the forms `Q PAN PSN HEX` and `S PAN PSN DIGIT`. They don't go through a queue, which may repeat them: a
 command that is put twice is queued twice, and a late status undoes a later one. It prints the answers.
 
-With --socket a bridge puts them to its host while that runs. Nothing stops. Name the sockets of both bridges of the
-partition: the one that serves takes the lines, one after another.
+With --socket the gateway, a bridge or a node puts them to its host while that runs. Nothing stops. A gateway has one
+socket for all its partitions. Of a partition behind a broker name the sockets of both bridges, or of the nodes: the one
+that serves takes the lines, one after another.
 
 --number   the order's number: letters, digits and hyphens, 40 at most. It is printed first if it is left out. A line
            with a number that was done isn't put again: the same call after an interruption tells what became of it
@@ -61,7 +62,7 @@ def lines_of(text: str) -> list[str]:
 
 
 def by_socket(sockets: list[str], number: str) -> None:
-    """Orders the lines of the input by a bridge's socket."""
+    """Orders the lines of the input by a socket."""
     if number and not is_number(number):
         raise Refusal("the number is letters, digits and hyphens, 40 at most; nothing was ordered")
     lines = lines_of(sys.stdin.read())

@@ -7,8 +7,7 @@ isn't undone. The message's answer is that of the request.
 """
 import os
 import re
-from collections.abc import Callable
-from typing import NamedTuple, Optional
+from typing import NamedTuple, Optional, Protocol
 
 from issuer_host.facts.answers import REFUSED, Refusal, SET, kind_of
 from issuer_host.facts.limits import MAX_LINE_BYTES
@@ -65,34 +64,47 @@ def decline_of(body: bytes) -> Optional[Decline]:
     return Decline(card, first["digit"], lines[1]) if is_of_card else None
 
 
+class Replier(Protocol):
+    """Who sends the answer of a decline."""
+
+    def send(self, entry: Entry, text: str) -> None:
+        """Sends the answer."""
+
+    def drop(self, entry: Entry) -> None:
+        """No answer comes any more."""
+
+
 class Declining(Work):
     """A decline that is put."""
 
     by = "account"
 
-    def __init__(self, decline: Decline, entry: Entry, reply: Callable[[Entry, str], object]) -> None:
+    def __init__(self, decline: Decline, entry: Entry, replier: Replier) -> None:
         super().__init__(decline.card[0])
         self.decline = decline
         self.entry = entry
-        self.reply = reply
+        self.replier = replier
 
     def steps(self, ledger: Ledger) -> Steps:
         """The three lines; the request alone, if its card has the status; none, if they can't be noted before."""
         card, status, request = self.decline
+        if self.entry.is_over:
+            self.replier.drop(self.entry)
+            return
         if ledger.records.status(card) == status:
-            self.reply(self.entry, (yield Put(request)))
+            self.replier.send(self.entry, (yield Put(request)))
             return
         begun = self.begin(ledger)
         if begun is None:
-            self.reply(self.entry, NOT_RECORDED)
+            self.replier.send(self.entry, NOT_RECORDED)
             return
         answer = yield Put(self.status_line(status))
         if kind_of(answer).word != SET:
             if answer != NOT_RECORDED:
                 ledger.file.end(begun.number)
-            self.reply(self.entry, answer)
+            self.replier.send(self.entry, answer)
             return
-        self.reply(self.entry, (yield Put(request)))
+        self.replier.send(self.entry, (yield Put(request)))
         yield from restore(begun, ledger)
 
     def begin(self, ledger: Ledger) -> Optional[Begun]:
@@ -104,7 +116,7 @@ class Declining(Work):
         try:
             ledger.file.begin(begun)
         except OSError as fault:
-            tell("bridge", f"no decline can be noted: {fault.strerror}")
+            tell(ledger.name, f"no decline can be noted: {fault.strerror}")
             return None
         return begun
 

@@ -1,6 +1,6 @@
 """Work on one card at a time: lines of the card that are put one after another, while its other lines wait.
 
-A bridge has two kinds of work: an operator's order, and an account's decline. Work begins when no line of its card is
+There are two kinds of work: an operator's order, and an account's decline. Work begins when no line of its card is
 with the host, and a line of it is put when the one before has its answer. So the card's records have them as
 neighbours, whatever is in flight, and with several callers too. Lines of other cards go on.
 
@@ -24,6 +24,10 @@ from issuer_host.host.retry_policy import RetryPolicy
 from issuer_host.orders.intent_log import Begun, WorkFile, restoring_line
 
 
+# Why an order isn't done any more.
+ENDS = "who takes the orders ends"
+
+
 class Put(NamedTuple):
     """A line that work puts next."""
 
@@ -37,6 +41,8 @@ class Ledger(NamedTuple):
 
     records: CardRecords
     file: WorkFile
+    # Who tells of what fails.
+    name: str
 
 
 Steps = Generator[Put, str, None]
@@ -77,7 +83,7 @@ def restore(begun: Begun, ledger: Ledger) -> Steps:
     line = restoring_line(begun, ledger.records)
     answer = (yield Put(line, True)) if line else ""
     if line and kind_of(answer).word not in RECORDED:
-        tell("bridge", f"{name_of_card(*begun.card)} can't get its status {begun.before} back: {answer}")
+        tell(ledger.name, f"{name_of_card(*begun.card)} can't get its status {begun.before} back: {answer}")
         return
     ledger.file.end(begun.number, answer)
 
@@ -153,7 +159,7 @@ class CardWorks:
 
     def add(self, work: Work) -> None:
         if self.is_stopping:
-            work.drop("the bridge ends")
+            work.drop(ENDS)
             return
         queue = self.cards.setdefault(work.pan, collections.deque())
         queue.append(work)
@@ -172,7 +178,7 @@ class CardWorks:
         work = self.cards[pan][0]
         if pan in self.before or pan in self.running or not isinstance(work, Work):
             return
-        running = Running(work, work.steps(Ledger(self.hosting.records, self.file)))
+        running = Running(work, work.steps(Ledger(self.hosting.records, self.file, self.hosting.settings.name)))
         self.running[pan] = running
         self.go_on(running, None)
 
@@ -280,7 +286,7 @@ class CardWorks:
             kept = [work for work in queue if pan in self.running and work is queue[0]]
             for work in queue:
                 if isinstance(work, Work) and work not in kept:
-                    work.drop("the bridge ends")
+                    work.drop(ENDS)
             self.cards[pan] = collections.deque(kept)
             if not kept:
                 del self.cards[pan]

@@ -1,4 +1,4 @@
-"""An operator's order that a bridge puts to its host while that runs.
+"""An operator's order that a gateway, a bridge or a node puts to its host while that runs.
 
 Each line of an order has a number of its own. Before it is put, that is noted durably, and what became of it after; so
 a line with a number that was recorded isn't put again: it gets the first one's answer. A line that got a refusal left

@@ -98,7 +98,7 @@ class Serving:
         self.hosting = LineHost(loop, settings, self, self, figures, pacer or AtOnce())
         notes = file or WorkFile(settings.journal)
         self.works = CardWorks(loop, self.hosting, notes, self.retries, self.work_answered, self.release)
-        self.orders = OrderSocket(loop, settings.orders, self.has_host, self.order)
+        self.orders = OrderSocket(loop, settings.orders, self.has_host, self.order, settings.name)
         # Whether requests come here: without them a host ends when it is idle.
         self.is_served = self.is_stopping = False
 
@@ -118,12 +118,16 @@ class Serving:
 
     def put(self, entry: Entry) -> None:
         """Puts a request to the host, or the three lines of an account's decline."""
-        decline = decline_of(entry.line) if b"\n" in entry.line else None
-        if decline is None:
+        if b"\n" not in entry.line:
             self.hosting.add(entry)
             return
+        decline = decline_of(entry.line)
+        if decline is None:
+            # (several lines of another form would get several answers)
+            self.requester.drop(entry)
+            return
         self.figures.declined()
-        self.works.add(Declining(decline, entry, self.requester.send))
+        self.works.add(Declining(decline, entry, self.requester))
 
     def abandon(self) -> None:
         """Answers nobody any more: requests come again, here or elsewhere. The host ends."""

@@ -1,8 +1,8 @@
-"""The socket on which a bridge takes orders: of its own user, and of root.
+"""The socket at which a bridge, a node or a gateway takes orders: of its own user, and of root.
 
 A peer sends lines, and each gets a line back:
 
-    host                    `host 1` if the bridge has a host that serves its partition, and `host 0` otherwise
+    host                    `host 1` if a host runs that is asked requests, and `host 0` otherwise
     order NUMBER LINE       `done ANSWER`; `before ANSWER` if it was done before; `not done: WHY`; `not known: WHY` if
                             the same has to be sent again to learn what became of it
 """
@@ -45,20 +45,22 @@ class Peer:
 
 
 class OrderSocket:
-    def __init__(self, loop: Loop, path: str, has_host: Callable[[], bool], on_order: OnOrder) -> None:
+    def __init__(self, loop: Loop, path: str, has_host: Callable[[], bool], on_order: OnOrder, name: str) -> None:
         self.loop = loop
         self.path = path
         self.has_host = has_host
         self.on_order = on_order
+        # Who tells of it.
+        self.name = name
         self.peers: dict[int, Peer] = {}
         self.listening: Optional[socket.socket] = None
 
     def open(self) -> None:
-        """Listens. A bridge that can't goes on without orders, and says so."""
+        """Listens. Who can't goes on without orders, and says so."""
         try:
             self.listening = listening_at(self.path)
         except OSError as fault:
-            tell("bridge", f"no orders are taken: {self.path}: {fault.strerror}")
+            tell(self.name, f"no orders are taken: {self.path}: {fault.strerror}")
             return
         self.loop.add_handler(self.listening.fileno(), self.accept, self.loop.READ)
 
@@ -118,7 +120,7 @@ class OrderSocket:
 
 
 def listening_at(path: str) -> socket.socket:
-    """Returns a socket at a path, which this user alone may connect to. What a bridge before left there is removed."""
+    """Returns a socket at a path, which this user alone may connect to. What a process before left there is removed."""
     with contextlib.suppress(FileNotFoundError):
         if stat.S_ISSOCK(os.lstat(path).st_mode):
             os.remove(path)

@@ -1,9 +1,9 @@
-"""The texts of orders: their lines and numbers, what a bridge's socket is asked, and how its replies begin.
+"""The texts of orders: their lines and numbers, what a socket is asked, and how its replies begin.
 
 The command's start is most of what an order takes. So this module and `client` import next to nothing: with `re`,
 `typing`, `socket` and `argparse` the command takes several times as long.
 """
-# What the socket is asked: whether the bridge has a host, and an order.
+# What the socket is asked: whether a host runs, and an order.
 HOST, ORDER = "host", "order"
 # How a reply to an order's line begins.
 DONE, BEFORE, NOT_DONE = "done", "before", "not"

@@ -29,8 +29,12 @@ START_SECONDS, END_SECONDS = 60.0, 30.0
 ZEROS = "0" * 10
 
 
+# The statuses by which a request is declined that its account declines, and all requests of a card that is blocked.
+ACCOUNT, BLOCKED = 1, 2
+
+
 def configuration(cards: int, shards: int = 2) -> dict[str, Any]:
-    """An issuer that approves up to 5000.00, and declines with 51 above."""
+    """An issuer that approves up to 5000.00, and declines with 51 above; with 61 and 62 by a card's status."""
     keys = [
         {"dki": 1, "option": "A", "ac": "0123456789ABCDEFFEDCBA9876543210", "smi": "000102030405060708090A0B0C0D0E0F"}
     ]
@@ -43,6 +47,10 @@ def configuration(cards: int, shards: int = 2) -> dict[str, Any]:
         "status": None,
     }
     table = [
+        anything | {"most": 999_999_999_999, "arc": arc, "approve": False, "csu": "00000000", "status": status}
+        for status, arc in ((ACCOUNT, "3631"), (BLOCKED, "3632"))
+    ]
+    table += [
         anything | {"most": 500000, "arc": "3030", "approve": True, "csu": "00800000"},
         anything | {"most": 999_999_999_999, "arc": "3531", "approve": False, "csu": "00000000"},
     ]
@@ -105,6 +113,8 @@ class Gateway:
     def __init__(self, issuer: Issuer, *words: str, hosts: Optional[list[str]] = None) -> None:
         """`hosts` are the arguments that say where the hosts are, if they aren't the issuer's own."""
         self.command = [os.path.join(HOME, "deploy/gateway"), *(issuer.words() if hosts is None else hosts), *words]
+        # The file of a dialect, where it isn't the shipped one.
+        self.files: dict[str, str] = {}
         # (a gateway that is started again listens where the first one did)
         self.ports: dict[str, int] = {}
         self.listening: set[str] = set()
@@ -120,7 +130,8 @@ class Gateway:
             self.end()
 
     def start(self) -> None:
-        listen = [it for name in DIALECTS for it in ("--listen", f"{self.ports.get(name, 0)}={name}")]
+        places = (f"{self.ports.get(name, 0)}={self.files.get(name, name)}" for name in DIALECTS)
+        listen = [it for place in places for it in ("--listen", place)]
         self.process = subprocess.Popen([*self.command, *listen], stderr=subprocess.PIPE, text=True)
         self.listening = set()
         threading.Thread(target=self.read, args=(self.process,), daemon=True).start()

@@ -96,7 +96,9 @@ class Machine:
         config, journal = self.files
         self.run("issuer-run", "--begin", "show", "--config", config, "--journal", journal)
         listens = ["--listen", f"{self.listens}={DIALECT}", "--figures", str(self.port)]
-        command = [f"{self.bin}/issuer-gateway", "--config", config, "--journal", journal, *listens]
+        orders = f"{self.folder}/run/issuer-gateway/orders"
+        os.mkdir(os.path.dirname(orders), mode=0o700)
+        command = [f"{self.bin}/issuer-gateway", "--config", config, "--journal", journal, "--orders", orders, *listens]
         self.write(f"units/{UNIT}.command", json.dumps(command))
         self.add_bridges(config, journal)
 
