@@ -17,6 +17,7 @@ from issuer_host.facts.masks import masked
 from issuer_host.facts.refusal import Refusal, tell
 from issuer_host.facts.request_lines import pan_of_line
 from issuer_host.files.folders import as_owner, folder_of
+from issuer_host.files.regular_files import open_regular
 
 ENDING = ".audit"
 # The size past which a file is full, and how many full ones are kept.
@@ -24,7 +25,7 @@ MOST_BYTES = 64 << 20
 FULL_FILES = 4
 # So many lines are written between two looks whether another process has moved the file away.
 LOOK_LINES = 64
-FLAGS = os.O_WRONLY | os.O_CREAT | os.O_APPEND | os.O_NOFOLLOW | os.O_CLOEXEC
+FLAGS = os.O_WRONLY | os.O_CREAT | os.O_APPEND
 
 
 class Audit:
@@ -82,14 +83,14 @@ class Audit:
         """Opens the file of the name, and begins a new one if it is full."""
         self.close()
         with as_owner(folder_of(self.path)):
-            self.file = os.open(self.path, FLAGS, 0o600)
+            self.file = open_regular(self.path, FLAGS)
             if os.fstat(self.file).st_size < self.most_bytes:
                 return
             fcntl.flock(self.file, fcntl.LOCK_EX)
             if is_of_name(self.file, self.path):
                 self.move()
             self.close()
-            self.file = os.open(self.path, FLAGS, 0o600)
+            self.file = open_regular(self.path, FLAGS)
 
     def move(self) -> None:
         """Gives a full file the next ending, and those before it the ones after theirs."""

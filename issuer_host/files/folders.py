@@ -5,6 +5,7 @@ import stat
 from collections.abc import Iterator
 
 from issuer_host.facts.refusal import Refusal
+from issuer_host.files.regular_files import open_regular
 
 OTHERS_WRITE = 0o022
 
@@ -63,4 +64,4 @@ def as_owner(folder: str) -> Iterator[None]:
 def open_own(path: str, flags: int) -> int:
     """Opens a file of a folder as the folder's user. A link isn't followed."""
     with as_owner(folder_of(path)):
-        return os.open(path, flags | os.O_NOFOLLOW | os.O_CLOEXEC, 0o600)
+        return open_regular(path, flags)

@@ -19,8 +19,8 @@ READ_OR_WRITE = 6
 def check_private(path: str, what: str) -> None:
     """Refuses a file that isn't this user's alone, or that isn't the only name of what it holds."""
     found = os.lstat(path)
-    if what == "journal" and not stat.S_ISREG(found.st_mode):
-        raise Refusal(f"the journal {path} is no regular file")
+    if what != "pipe" and not stat.S_ISREG(found.st_mode):
+        raise Refusal(f"the {what} {path} is no regular file: move it away")
     if what == "pipe" and not stat.S_ISFIFO(found.st_mode):
         raise Refusal(f"{path} is no pipe")
     if found.st_uid != os.geteuid():

@@ -13,6 +13,10 @@ SUM = "sum"
 LINE = re.compile(r'(\{.*),"sum":"([0-9a-f]{64})"\}')
 # What tells a line that had a sum: one bit that is changed spoils one of these two.
 TRACES = re.compile(r'"sum":|[0-9a-f]{64}"\}\Z')
+# What a line has that was written whole, and no beginning of one but its last two bytes.
+WHOLE = re.compile(r'"sum":"[0-9a-f]{64}|[0-9a-f]{64}"\}')
+# What the end of a file has of a line that was written whole, and whose newline is another byte.
+ENDED = re.compile(r'[0-9a-f]{64}"\}')
 
 
 def sum_of(text: str) -> str:
@@ -31,7 +35,7 @@ def said_of(line: str) -> "dict[str, Any]":
     text = f"{found[1]}}}" if found else line
     if found and sum_of(text) != found[2]:
         raise ValueError("the line isn't the one that its sum was made of")
-    if not found and has_traces(line):
+    if not found and TRACES.search(line):
         raise ValueError("the line's sum was changed")
     said = json.loads(text)
     if not isinstance(said, dict):
@@ -39,6 +43,11 @@ def said_of(line: str) -> "dict[str, Any]":
     return said
 
 
-def has_traces(text: str) -> bool:
-    """Whether a text is, or begins with, a line that had a sum."""
-    return bool(TRACES.search(text))
+def may_be_torn(line: str) -> bool:
+    """Whether a line that is none may be the beginning of one: a full disk left it, and others were written after."""
+    return not line.endswith("}") and not WHOLE.search(line)
+
+
+def is_torn_end(text: str) -> bool:
+    """Whether what follows the last newline of a file may be the beginning of a line that a crash tore."""
+    return not ENDED.search(text)

@@ -1,23 +1,26 @@
 """The file beside the journals that says which work on cards was begun, and what became of the last orders.
 
-`JOURNAL.work` has a JSON object a line. Before a line is put whose record must not be made twice, or has to be undone,
-what is needed to settle it is appended and synced. What became of it is appended after. If that never came, the
-journals say it: they have one more record of the card then, or they don't.
+`JOURNAL.work` has a JSON object a line, with a sum of the line. Before a line is put whose record must not be made
+twice, or has to be undone, what is needed to settle it is appended and synced. What became of it is appended after. If
+that never came, the journals say it: they have one more record of the card then, or they don't.
+
+If the file can't be read, or a line was changed, no order and no decline is done until a person has looked. Requests go
+on.
 
 Who has the journals' lock may write it: a bridge whose host runs, or an order over journals that no host serves.
 """
-import contextlib
 import errno
 import hashlib
-import json
 import os
 from collections.abc import Callable
 from typing import Any, NamedTuple, Optional
 
-from issuer_host.facts.refusal import tell
+from issuer_host.facts.refusal import Refusal, tell
 from issuer_host.facts.request_lines import SET_STATUS
 from issuer_host.files.card_records import Card, CardRecords, answer_of
 from issuer_host.files.folders import as_owner, folder_of, sync_folder
+from issuer_host.files.regular_files import open_regular
+from issuer_host.files.summed_lines import is_torn_end, may_be_torn, said_of, summed
 
 ENDING = ".work"
 # So many ended orders are known at least. With so many lines the file is written anew.
@@ -25,6 +28,8 @@ KNOWN = 2_000
 MOST_LINES = 20_000
 # An account's decline: its form, beside those of the lines of orders.
 DECLINE = "decline"
+# The members of a line that says what became of work.
+ENDED = {"number", "answer"}
 
 
 class Begun(NamedTuple):
@@ -62,42 +67,84 @@ class WorkFile:
         # By number: the sum of an order's line, and its answer.
         self.ended: dict[str, tuple[str, str]] = {}
         self.file = -1
+        # Why no work may begin; nothing if it may.
+        self.fault = ""
         # What was to be appended and couldn't be, and whether a part of it may have been.
         self.unwritten: list[dict[str, Any]] = []
         self.is_torn = False
         self.lines = 0
 
     def load(self) -> None:
-        """Reads the file anew: another bridge may have written it."""
+        """Reads the file anew: another bridge may have written it. A fault of it lets no work begin."""
+        self.clear()
+        self.fault = ""
+        try:
+            self.read()
+        except (OSError, Refusal) as fault:
+            self.refuse(getattr(fault, "strerror", None) or str(fault))
+        except (ValueError, KeyError, TypeError):
+            self.refuse(f"line {self.lines + 1} was changed since it was written")
+
+    def refuse(self, why: str) -> None:
+        """Lets no work begin, and tells why."""
+        self.clear()
+        self.fault = (
+            f"{self.path}: {why}. Stop the host, and restore the file from a copy. Without a copy look at the cards'"
+            " statuses, and move the file away: orders that were done aren't known by their numbers then"
+        )
+        tell("bridge", f"no order and no account's decline is done: {self.fault}")
+
+    def clear(self) -> None:
         self.close()
         self.open.clear()
         self.ended.clear()
         self.unwritten.clear()
         self.is_torn = False
         self.lines = 0
+
+    def read(self) -> None:
         with as_owner(folder_of(self.path)):
-            flags = os.O_RDWR | os.O_CREAT | os.O_APPEND | os.O_NOFOLLOW | os.O_CLOEXEC
-            self.file = os.open(self.path, flags, 0o600)
-        with open(os.dup(self.file), "rb") as text:
-            *whole, torn = text.read().split(b"\n")
+            self.file = open_regular(self.path, os.O_RDWR | os.O_CREAT | os.O_APPEND)
+        with open(os.dup(self.file), "rb") as opened:
+            *whole, torn = opened.read().decode("latin-1").split("\n")
+        for line in whole:
+            self.take_line(line)
         if torn:
-            os.ftruncate(self.file, os.fstat(self.file).st_size - len(torn))
+            self.take_end(torn)
         if not whole:
             sync_folder(folder_of(self.path))
-        for line in whole:
-            with contextlib.suppress(ValueError):
-                # (a line that couldn't be written whole is none)
-                self.take(json.loads(line))
+
+    def take_line(self, line: str) -> None:
+        """Takes a whole line. One that was changed is a ValueError, a KeyError or a TypeError."""
+        try:
+            said = said_of(line)
+        except ValueError:
+            if not may_be_torn(line):
+                raise
+            # (a line that couldn't be written whole is none)
+            self.lines += 1
+        else:
+            self.take(said)
+
+    def take_end(self, text: str) -> None:
+        """Truncates what follows the last newline, unless its newline alone is missing."""
+        try:
+            self.take(said_of(text))
+            self.is_torn = True
+        except (ValueError, KeyError, TypeError):
+            if not is_torn_end(text):
+                raise
+            os.ftruncate(self.file, os.fstat(self.file).st_size - len(text))
 
     def take(self, said: dict[str, Any]) -> None:
-        self.lines += 1
-        if "answer" not in said:
+        if set(said) != ENDED:
             begun = Begun(**said)
             self.open[begun.number] = begun
-            return
-        ended = self.open.pop(said["number"], None)
-        if ended and ended.form != DECLINE and said["answer"]:
-            self.ended[ended.number] = ended.value, said["answer"]
+        else:
+            ended = self.open.pop(said["number"], None)
+            if ended and ended.form != DECLINE and said["answer"]:
+                self.ended[ended.number] = ended.value, said["answer"]
+        self.lines += 1
 
     def rewrite(self) -> None:
         """Leaves out what nobody asks for any more."""
@@ -107,7 +154,7 @@ class WorkFile:
             said += [Begun(number, "", "", "", 0, value)._asdict(), {"number": number, "answer": answer}]
         new = self.path + ".new"
         with as_owner(folder_of(self.path)):
-            made = os.open(new, os.O_RDWR | os.O_CREAT | os.O_TRUNC | os.O_APPEND | os.O_NOFOLLOW | os.O_CLOEXEC, 0o600)
+            made = open_regular(new, os.O_RDWR | os.O_CREAT | os.O_TRUNC | os.O_APPEND)
             os.write(made, text_of(said))
             os.fsync(made)
             os.replace(new, self.path)
@@ -118,6 +165,8 @@ class WorkFile:
 
     def begin(self, begun: Begun) -> None:
         """Notes durably that work begins. An OSError says that it may not."""
+        if self.fault:
+            raise OSError(errno.EIO, self.fault)
         if self.lines > MOST_LINES:
             self.rewrite()
         self.append([begun._asdict()])
@@ -150,17 +199,26 @@ class WorkFile:
         """Appends lines whole, behind those that couldn't be appended before."""
         self.unwritten += said
         text = b"\n" * self.is_torn + text_of(self.unwritten)
+        size = os.fstat(self.file).st_size
         try:
             if os.write(self.file, text) != len(text):
                 raise OSError(errno.ENOSPC, os.strerror(errno.ENOSPC))
         except OSError:
-            self.is_torn = True
+            self.is_torn = self.is_torn or not self.is_back(size)
             if "answer" not in said[-1]:
                 del self.unwritten[-len(said) :]
             raise
         self.is_torn = False
         self.lines += len(self.unwritten)
         self.unwritten.clear()
+
+    def is_back(self, size: int) -> bool:
+        """Truncates the file to the bytes that it had. Returns whether it could."""
+        try:
+            os.ftruncate(self.file, size)
+        except OSError:
+            return False
+        return True
 
     def close(self) -> None:
         if self.file >= 0:
@@ -181,7 +239,7 @@ class WorkFile:
 
 
 def text_of(said: list[dict[str, Any]]) -> bytes:
-    return b"".join(json.dumps(one, separators=(",", ":")).encode() + b"\n" for one in said)
+    return "".join(summed(one) + "\n" for one in said).encode()
 
 
 def restoring_line(begun: Begun, records: CardRecords) -> Optional[str]:

@@ -108,6 +108,8 @@ def order(options: Options, texts: Sequence[str]) -> None:
             before = offline.show(*where)
             check(lines, before, options.queued)
             file.load()
+            if file.fault:
+                raise Refusal(file.fault)
             first = restoring(file)
             answers = offline.serve([line.text for line in (*first, *lines)], *where)
             after = offline.show(*where)

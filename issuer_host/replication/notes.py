@@ -6,13 +6,14 @@ of its first note: what nobody asks for any more is left out when the file is lo
 """
 import collections
 import contextlib
-import json
 import os
 from collections.abc import Callable
 from typing import Any
 
 from issuer_host.facts.refusal import Refusal
 from issuer_host.files.folders import folder_of, sync_folder
+from issuer_host.files.regular_files import open_regular
+from issuer_host.files.summed_lines import may_be_torn, said_of, summed
 from issuer_host.files.whole_writes import write_whole
 from issuer_host.orders.intent_log import Begun, ENDING, KNOWN, MOST_LINES, WorkFile
 from issuer_host.replication.messages import NOTES, Record
@@ -25,23 +26,38 @@ def notes_path(journal: str) -> str:
 
 
 def read_notes(journal: str) -> "tuple[int, list[str]]":
-    """Returns the place of a file's first note, and its notes. A torn last line is none."""
+    """Returns the place of a file's first note, and its notes. A torn last line is none; a changed one is refused."""
+    path = notes_path(journal)
     try:
-        with open(notes_path(journal), encoding="ascii") as text:
+        with open(open_regular(path, os.O_RDONLY), encoding="latin-1", newline="\n") as text:
             *lines, _ = text.read().split("\n")
     except FileNotFoundError:
         return 0, []
+    for number, line in enumerate(lines, 1):
+        if was_changed(line):
+            raise Refusal(
+                f"line {number} of {path} was changed since it was written: copy another machine's journals by"
+                " deploy/node --copy"
+            )
     with contextlib.suppress(ValueError, IndexError, KeyError, TypeError):
-        return int(json.loads(lines[0])[FIRST]), lines[1:]
+        return int(said_of(lines[0])[FIRST]), lines[1:]
     return 0, lines
+
+
+def was_changed(line: str) -> bool:
+    try:
+        said_of(line)
+    except ValueError:
+        return not may_be_torn(line)
+    return False
 
 
 def write_notes(journal: str, first: int, lines: "list[str]") -> int:
     """Puts notes in place of those that a file has, durably. Returns the bytes."""
     path = notes_path(journal)
     new = path + ".new"
-    text = "".join(f"{line}\n" for line in (json.dumps({FIRST: first}), *lines)).encode("ascii")
-    file = os.open(new, os.O_WRONLY | os.O_CREAT | os.O_TRUNC | os.O_NOFOLLOW | os.O_CLOEXEC, 0o600)
+    text = "".join(f"{line}\n" for line in (summed({FIRST: first}), *lines)).encode("latin-1")
+    file = open_regular(new, os.O_WRONLY | os.O_CREAT | os.O_TRUNC)
     try:
         write_whole(file, text, 0)
         os.fsync(file)
@@ -90,7 +106,7 @@ class Notes:
         if self.lines > MOST_LINES and not self.beyond:
             self.leave_out()
         data = text.encode("ascii") + b"\n"
-        file = os.open(self.path, os.O_WRONLY | os.O_NOFOLLOW | os.O_CLOEXEC)
+        file = open_regular(self.path, os.O_WRONLY)
         try:
             write_whole(file, data, self.bytes)
         except OSError:
@@ -132,13 +148,13 @@ class Notes:
 
 
 def as_note(said: "dict[str, Any]") -> str:
-    return json.dumps(said, separators=(",", ":"))
+    return summed(said)
 
 
 def take(file: WorkFile, line: str) -> None:
     with contextlib.suppress(ValueError, TypeError, KeyError):
         # (a line that couldn't be written whole is none)
-        file.take(json.loads(line))
+        file.take(said_of(line))
 
 
 class NotedWork(WorkFile):

@@ -24,7 +24,8 @@ from issuer_host.facts.answers import RECORDED
 from issuer_host.facts.faults import lasts
 from issuer_host.facts.refusal import Refusal, tell
 from issuer_host.facts.statuses import Status, meaning_of
-from issuer_host.host.command import INPUT, command_of, serving_command
+from issuer_host.files.regular_files import open_regular
+from issuer_host.host.command import command_of, INPUT, serving_command
 from issuer_host.host.event_loop import Action, Loop
 from issuer_host.host.line_host import HostSettings
 from issuer_host.orders.partition_host import Serving
@@ -608,7 +609,7 @@ class PartitionNode:
 
 def locked(journal: str) -> int:
     """Locks the journals for this node for as long as it lives."""
-    file = os.open(journal + LOCK, os.O_RDWR | os.O_CREAT | os.O_NOFOLLOW | os.O_CLOEXEC, 0o600)
+    file = open_regular(journal + LOCK, os.O_RDWR | os.O_CREAT)
     try:
         fcntl.flock(file, fcntl.LOCK_EX | fcntl.LOCK_NB)
     except BlockingIOError as fault:

@@ -13,13 +13,14 @@ import threading
 from collections.abc import Callable, Iterable
 from typing import Any, NamedTuple, Optional
 
+from issuer_host.facts.faults import refuse_if_lasting
 from issuer_host.facts.journals import POSITION, VERSION_LINE, journal_path, old_journal_path, shards_of_files
 from issuer_host.facts.refusal import Refusal
 from issuer_host.files.regular_files import open_regular
 from issuer_host.files.seals import copy_seals
 from issuer_host.files.summed_lines import said_of, summed
 from issuer_host.host.event_loop import Loop
-from issuer_host.replication.messages import Barrier, LOGS, Mark, NAME, NOTES, text_of
+from issuer_host.replication.messages import LOGS, NAME, NOTES, Barrier, Mark, text_of
 from issuer_host.replication.notes import read_notes, write_notes
 from issuer_host.replication.rule import NO_BARRIER
 
@@ -64,6 +65,9 @@ def read(journal: str) -> Position:
             f"there is no {path}: begin the partition by deploy/node --begin, once, on all machines with the same"
             " journals, or copy another machine's journals by deploy/node --copy"
         ) from fault
+    except OSError as fault:
+        refuse_if_lasting(fault, f"{path}: {fault.strerror}")
+        raise
     except (ValueError, KeyError, TypeError) as fault:
         raise Refusal(
             f"{path} is no position, or was changed: copy another machine's journals by deploy/node --copy"

@@ -13,6 +13,7 @@ The words from the command on are the program's own; see issuer(1). Before it ha
   all do
 - each journal, old or not, is a regular file of this user, with one name, that no other user can open; so is a pipe
   that --requests or --feed names
+- seals, mark and position beside the journals are regular files of this user that no other user can open
 - no journal is empty where another has records
 - each journal is what the seals beside it say (`JOURNAL.seals`), and hasn't grown since its last run ended (`NAME.run`)
 - no journal is shorter, and no seals are fewer, than the last run found or left them

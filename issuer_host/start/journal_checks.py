@@ -15,7 +15,8 @@ from issuer_host.facts.journals import (
 from issuer_host.facts.refusal import Refusal
 from issuer_host.files.folders import sync_folder
 from issuer_host.files.private_files import check_private
-from issuer_host.files.seals import ACCEPTS
+from issuer_host.files.run_mark import mark_path
+from issuer_host.files.seals import ACCEPTS, seals_path
 
 
 def check_journals(name: str, shards: int, begins: bool, accepts: bool) -> None:
@@ -35,6 +36,9 @@ def check_journals(name: str, shards: int, begins: bool, accepts: bool) -> None:
         create_journals(name, shards)
     for path in journals_of(name):
         check_private(path, "journal")
+    beside = [mark_path(name), name + POSITION, *(seals_path(journal_path(name, shard)) for shard in range(shards))]
+    for path in filter(os.path.lexists, beside):
+        check_private(path, "file")
     if not accepts:
         check_empty(name, shards)
 

@@ -11,11 +11,11 @@ from issuer_host.facts.journals import VERSION_LINE
 from issuer_host.facts.refusal import Refusal
 from issuer_host.facts.statuses import Status
 from issuer_host.files.seals import Seals
-from issuer_host.orders.intent_log import MOST_LINES
+from issuer_host.orders.intent_log import Begun, MOST_LINES
 from issuer_host.replication import cluster_keys, positions
 from issuer_host.replication.journal_files import JournalFiles
 from issuer_host.replication.messages import Barrier, LOGS, NOTES, Record
-from issuer_host.replication.notes import Notes, read_notes
+from issuer_host.replication.notes import as_note, Notes, read_notes, write_notes
 from issuer_host.replication.record_origins import FedLines, Origin, RefusedRecord
 from runs import PANS, SHARDS, write_bytes, write_text
 
@@ -349,6 +349,24 @@ def notes_are_kept(tally: Tally) -> None:
         tally.holds("hasn't the" in refused(Notes(host.name, MOST_LINES + 4).open), "notes that are missing")
 
 
+def refuses_notes_that_were_changed(tally: Tally) -> None:
+    """Each bit of a node's notes that is changed is found: they count, and another machine has them."""
+    with new_host(tally) as host:
+        begun = Begun("n/1", "Q", PANS[0], "00", 0, "5" * 64)
+        write_notes(host.name, 7, [as_note(begun._asdict()), as_note({"number": "n/1", "answer": "queued 0 0"})])
+        before = read_notes(host.name)
+        with open(f"{host.name}.work", "rb") as text:
+            data = text.read()
+        taken = 0
+        # (without its last newline a line is torn, and notes that count are missed then)
+        for changed in flipped(data[:-1]):
+            write_bytes(host.folder, "journal.work", changed + b"\n")
+            taken += not refused(lambda: read_notes(host.name))
+        tally.expect((taken, before[0]), (0, 7), f"changed notes of {8 * len(data) - 8} that are taken")
+        write_text(host.folder, "journal.work", '{"first": 3}\n{"number":"n/1","answer":""}\n')
+        tally.expect(read_notes(host.name), (3, ['{"number":"n/1","answer":""}']), "notes of an older release")
+
+
 CHECKS = [
     check_of(body)
     for body in (
@@ -365,5 +383,6 @@ CHECKS = [
         refuses_a_record_that_is_none,
         knows_the_message_of_a_line,
         notes_are_kept,
+        refuses_notes_that_were_changed,
     )
 ]

@@ -1,4 +1,5 @@
 """The refusals of deploy/issuer-run before the built program, and the starts that it lets pass; deploy/look."""
+import contextlib
 import fcntl
 import os
 import stat
@@ -72,6 +73,41 @@ def refuses_open_files(tally: Tally) -> None:
         os.mkfifo(pipe, 0o600)
         os.chmod(pipe, 0o620)
         is_refused(tally, host.start(command="serve", more=("--requests", pipe)), "an open pipe", "chmod 600")
+
+
+def put_instead(path: str, what: str) -> None:
+    if what == "pipe":
+        os.mkfifo(path)
+    elif what == "folder":
+        os.mkdir(path)
+    else:
+        os.symlink("/dev/zero", path)
+
+
+def refuses_what_is_no_file_beside(tally: Tally) -> None:
+    """A pipe, a folder or a link in place of a file beside the journals hangs no start, and is named."""
+    for ending in (".00.v2.seals", ".run", ".position", ".audit"):
+        for what in ("pipe", "folder", "link"):
+            with new_host(tally) as host:
+                path = f"{host.begun().name}{ending}"
+                with contextlib.suppress(FileNotFoundError):
+                    os.remove(path)
+                put_instead(path, what)
+                ran = host.start(timeout=60)
+                if ending == ".audit":
+                    tally.expect(ran.returncode, Status.OK, f"a start beside a {what} {ending}, with {ran.stderr!r}")
+                else:
+                    is_refused(tally, ran, f"a {what} {ending}", os.path.basename(path), "is no regular file", "move")
+
+
+def refuses_open_files_beside(tally: Tally) -> None:
+    """Seals, mark and position that others could write are refused as journals are."""
+    for ending in (".01.v2.seals", ".run", ".position"):
+        with new_host(tally) as host:
+            path = f"{host.begun().name}{ending}"
+            with open(path, "a", encoding="ascii"):
+                os.chmod(path, 0o666)
+            is_refused(tally, host.start(), f"an open {ending}", os.path.basename(path), "chmod 600")
 
 
 def close_input() -> None:
@@ -154,6 +190,8 @@ CHECKS = [
         refuses_a_missing_journal,
         refuses_a_journal_past_the_shards,
         refuses_open_files,
+        refuses_what_is_no_file_beside,
+        refuses_open_files_beside,
         refuses_a_closed_input,
         refuses_old_journals,
         copies_old_journals,
