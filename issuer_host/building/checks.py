@@ -14,6 +14,7 @@ WITHOUT_PROGRAM = (
     "tests/pages/definitions --check",
     "tests/sources/crates",
     "tests/sources/unused",
+    "tests/sources/library_calls",
     "tests/sources/sinks",
     "tests/pages/field_definitions",
     "tests/pages/figures",
