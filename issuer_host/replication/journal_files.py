@@ -1,42 +1,26 @@
 """The journals of a machine as the rule sees them: what counts of them, and what is beyond.
 
-A record that counts and isn't there is put by a run of `issuer standby`, which checks it as a start checks it. That run
-stays until a host has to begin or a journal is truncated. A truncated journal's seals are truncated with it.
+A run of `issuer standby` takes the records that count and aren't there (`standby_run`). A truncated journal's seals are
+truncated with it.
 """
 import collections
 import os
-import re
-from collections.abc import Callable, Sequence
+from collections.abc import Sequence
 from typing import Optional, Union
 
 from issuer_host.facts.journals import MAX_RECORD_LINE, VERSION_LINE, journal_path
 from issuer_host.facts.refusal import Refusal
-from issuer_host.facts.statuses import NOT_AGAIN, Status, meaning_of
 from issuer_host.files.run_mark import RunMark, lock_mark
-from issuer_host.files.seal_writer import Sealing
 from issuer_host.files.seals import Left, Seals, count_seals
-from issuer_host.host.event_loop import Loop
-from issuer_host.host.process import Host
 from issuer_host.replication.messages import NOTES, Record
 from issuer_host.replication.notes import Notes
 from issuer_host.replication.positions import Position
-from issuer_host.replication.record_origins import FedLines, NOWHERE, RefusedRecord, refusal_of
+from issuer_host.replication.record_origins import NOWHERE, RefusedRecord
+from issuer_host.replication.standby_run import StandbyRun, TransientFault
 from issuer_host.start.history_checks import is_locked
 
 PIECE = 1 << 16
-# A run of standby that is to end has so long to take what it was given.
-END_SECONDS = 60.0
-# So many lines wait for a run of standby before no more is read of the stream.
-MOST_WAITING = 1_000
-# With these a run of standby ends in the same way until a person has acted.
-NEED_A_PERSON = (*NOT_AGAIN, Status.BAD_FEED)
 LOOK = "the machines' journals aren't of one history; copy another machine's by deploy/node --copy"
-# The last line of a run of standby that a line of its feed is bad.
-BAD_LINE = re.compile(rf"stop {Status.BAD_FEED:d} ([1-9][0-9]*)")
-
-
-class Passing(Exception):
-    """Something failed that passes: the partition begins again from its position."""
 
 
 class Shard:
@@ -91,34 +75,16 @@ class Shard:
 
 
 class JournalFiles:
-    """`rule.Journals` over files. `on_fault` gets what ended a run of standby: a Refusal, or what passes."""
+    """`rule.Journals` over files."""
 
-    def __init__(
-        self,
-        loop: Loop,
-        journal: str,
-        shards: int,
-        position: Position,
-        standby: Sequence[str],
-        name: str,
-        on_fault: Callable[[Exception], object],
-    ) -> None:
-        self.loop = loop
+    def __init__(self, journal: str, shards: int, position: Position, standby: StandbyRun) -> None:
         self.journal = journal
-        self.command = standby
-        # Who tells of it.
-        self.name = name
-        self.on_fault = on_fault
         counted = zip(range(shards), position.counts, position.sizes)
         self.shards = [Shard(journal, number, count, size) for number, count, size in counted]
         self.notes = Notes(journal, position.counts[NOTES])
-        self.standby: Optional[Host] = None
-        self.sealing = Sealing(journal, name)
-        # The message of the stream that is being read, and from which one the lines came that the run was given.
+        self.standby = standby
+        # The message of the stream that is being read.
         self.origin = NOWHERE
-        self.fed = FedLines()
-        # What is called when the run of standby has ended that is to end; None if it isn't to end.
-        self.on_ended: Optional[Callable[[], object]] = None
 
     def open(self) -> None:
         """Reads what there is beyond what counts. No run has the journals open."""
@@ -136,7 +102,7 @@ class JournalFiles:
             if mark is not None and not is_free:
                 mark.close()
         if mark is None or not is_free:
-            raise Passing(f"another program has the journals {self.journal} open")
+            raise TransientFault(f"another program has the journals {self.journal} open")
         return mark
 
     def read_all(self) -> None:
@@ -168,13 +134,7 @@ class JournalFiles:
             return
         if record.shard >= len(self.shards) or len(record.text) >= MAX_RECORD_LINE:
             raise RefusedRecord(f"shard {record.shard} has no journal here that could have it")
-        if self.standby is None or not self.standby.is_open or self.standby.is_full():
-            self.end_standby_now()
-            self.standby = Host(self.loop, self.command, lambda _: None, self.standby_ended)
-            self.sealing = Sealing(self.journal, self.name)
-            self.fed.begin()
-        self.standby.put(f"{record.shard} {record.place} {record.text}".encode("ascii"))
-        self.fed.add(self.standby.lines, self.origin)
+        self.standby.put(record, self.origin)
 
     def truncate(self, shard: int, length: int) -> None:
         if length < self.log(shard).count:
@@ -183,7 +143,7 @@ class JournalFiles:
             self.notes.truncate(length)
             return
         found = self.shards[shard]
-        self.end_standby_now()
+        self.standby.end_now()
         mark = self.locked_mark()
         try:
             size = found.forget_beyond(length)
@@ -192,69 +152,6 @@ class JournalFiles:
             mark.has_ended()
         finally:
             mark.close()
-
-    # The run of standby
-
-    def flush(self) -> None:
-        """Lets the run of standby have what was put."""
-        if self.standby is not None:
-            self.standby.flush()
-
-    def has_room(self) -> bool:
-        return self.standby is None or len(self.standby.unwritten) < MOST_WAITING
-
-    def end_standby(self, then: Callable[[], object]) -> None:
-        """Lets the run of standby take what was put and end. Then, or if there is none, the action is called."""
-        if self.standby is None:
-            then()
-            return
-        self.on_ended = then
-        self.standby.close_when_written()
-
-    def begin_no_host(self) -> None:
-        """What was to be called when the run of standby has ended isn't called."""
-        if self.on_ended is not None:
-            self.on_ended = lambda: None
-
-    def standby_ended(self, status: int, said: str) -> None:
-        self.standby = None
-        then, self.on_ended = self.on_ended, None
-        self.mark_end()
-        if status == Status.OK and then is not None:
-            then()
-        else:
-            self.on_fault(self.fault_of(status, said))
-
-    def end_standby_now(self) -> None:
-        """Has the run of standby take what was put and end, and waits for that."""
-        if self.standby is None:
-            return
-        standby, self.standby, self.on_ended = self.standby, None, None
-        status = standby.finish_now(END_SECONDS)
-        self.mark_end()
-        if status != Status.OK:
-            raise self.fault_of(status, standby.stop_line)
-
-    def kill_standby(self) -> None:
-        """Kills the run of standby: what it hasn't taken is read again."""
-        self.on_ended = None
-        if self.standby is not None:
-            self.standby.kill_now()
-            self.standby = None
-            self.mark_end()
-
-    def mark_end(self) -> None:
-        """No run appends any more."""
-        self.sealing.end()
-
-    def fault_of(self, status: int, said: str) -> Exception:
-        bad = BAD_LINE.fullmatch(said)
-        origin = self.fed.of(int(bad[1])) if bad else None
-        if origin is not None:
-            return refusal_of(origin, f"standby ended with `{said}`, {meaning_of(status)}")
-        if status in NEED_A_PERSON:
-            return Refusal(f"the records of the stream aren't taken into {self.journal}: {said}: {meaning_of(status)}")
-        return Passing(f"standby ended with {status}, {said or 'without a last line'}: {meaning_of(status)}")
 
     # What a position says
 
@@ -270,12 +167,11 @@ class JournalFiles:
 
     def seal(self) -> None:
         """Seals what a run of standby has appended: what is followed by another record is durable."""
-        if self.standby is None:
+        if not self.standby.is_running:
             return
         for shard in self.shards:
             has_all = shard.bytes_in_file() >= shard.size
-            self.sealing.are_durable(shard.number, max(shard.count - 1, 0) if has_all else 0)
-        self.sealing.look()
+            self.standby.are_durable(shard.number, max(shard.count - 1, 0) if has_all else 0)
 
     def grown(self, before: Position, position: Position) -> "list[str]":
         """Returns the files of which more counts at a position than at the one before."""
@@ -284,9 +180,9 @@ class JournalFiles:
 
     def are_there(self, position: Position) -> bool:
         """Whether the journals have what counts at a position."""
-        if self.standby is None:
-            return True
-        return all(shard.bytes_in_file() >= position.sizes[shard.number] for shard in self.shards)
+        return not self.standby.is_running or all(
+            shard.bytes_in_file() >= position.sizes[shard.number] for shard in self.shards
+        )
 
 
 def filled(numbers: Sequence[int], last: int) -> tuple[int, ...]:

@@ -7,14 +7,14 @@ of its first note: what nobody asks for any more is left out when the file is lo
 import collections
 import contextlib
 import os
-from collections.abc import Callable
-from typing import Any
+from typing import Any, Protocol
 
 from issuer_host.facts.refusal import Refusal
 from issuer_host.files.folders import folder_of, sync_folder
 from issuer_host.files.regular_files import open_regular
 from issuer_host.files.summed_lines import may_be_torn, said_of, summed
 from issuer_host.files.whole_writes import write_whole
+from issuer_host.host.event_loop import Action
 from issuer_host.orders.intent_log import Begun, ENDING, KNOWN, MOST_LINES, WorkFile
 from issuer_host.replication.messages import NOTES, Record
 
@@ -157,44 +157,49 @@ def take(file: WorkFile, line: str) -> None:
         file.take(said_of(line))
 
 
-class NotedWork(WorkFile):
-    """`WorkFile` over notes. `write` gets each one that was appended, and `wait` what is done once all count."""
+class NoteStream(Protocol):
+    """Where notes go beside their file: what is noted counts once the stream has it."""
 
-    def __init__(
-        self,
-        journal: str,
-        notes: Callable[[], Notes],
-        write: Callable[[Record], object],
-        wait: Callable[[Callable[[], object]], object],
-    ) -> None:
+    def notes(self) -> Notes:
+        """Returns the notes of this machine."""
+
+    def noted(self, note: Record) -> None:
+        """Takes a note that was appended."""
+
+    def when_noted(self, action: Action) -> None:
+        """Does something once all notes count."""
+
+
+class NotedWork(WorkFile):
+    """`WorkFile` over notes."""
+
+    def __init__(self, journal: str, stream: NoteStream) -> None:
         super().__init__(journal)
-        self.notes = notes
-        self.write = write
-        self.wait = wait
+        self.stream = stream
 
     def load(self) -> None:
         """Takes what the notes say: another machine may have written them."""
         self.open.clear()
         self.ended.clear()
-        for line in self.notes().all():
+        for line in self.stream.notes().all():
             take(self, line)
 
     def begin(self, begun: Begun) -> None:
         """Notes that work begins. An OSError says that it may not."""
         self.append([begun._asdict()])
         self.open[begun.number] = begun
-        self.notes().sync()
+        self.stream.notes().sync()
 
     def append(self, said: "list[dict[str, Any]]") -> None:
-        notes = self.notes()
+        notes = self.stream.notes()
         for one in said:
             text = as_note(one)
             notes.append(text)
-            self.write(Record(NOTES, notes.length() - 1, text))
+            self.stream.noted(Record(NOTES, notes.length() - 1, text))
 
-    def when_noted(self, action: Callable[[], object]) -> None:
+    def when_noted(self, action: Action) -> None:
         """Does something once what was noted counts: no line is put before."""
-        self.wait(action)
+        self.stream.when_noted(action)
 
     def close(self) -> None:
         pass

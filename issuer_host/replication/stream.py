@@ -54,7 +54,7 @@ class Place(NamedTuple):
     digest: str
 
 
-class Delivered(NamedTuple):
+class StreamDelivery(NamedTuple):
     """A message that was delivered and isn't read."""
 
     tag: int
@@ -97,7 +97,7 @@ class Stream:
         # What is written once the channel is open.
         self.unwritten: collections.deque[bytes] = collections.deque()
         self.is_open = False
-        self.unread: collections.deque[Delivered] = collections.deque()
+        self.unread: collections.deque[StreamDelivery] = collections.deque()
         # How many messages that were read aren't acknowledged.
         self.unacknowledged = 0
         # The keys of others by which this one's was named.
@@ -191,7 +191,7 @@ class Stream:
     def delivered(self, channel: Channel, delivery: Delivery, properties: Properties, body: bytes) -> None:
         if channel is self.reading:
             offset = BEFORE if properties.stream_offset is None else properties.stream_offset
-            self.unread.append(Delivered(delivery.delivery_tag, offset, body, properties.has_headers))
+            self.unread.append(StreamDelivery(delivery.delivery_tag, offset, body, properties.has_headers))
             self.on_more()
 
     def next(self) -> Optional[Taken]:
@@ -207,7 +207,7 @@ class Stream:
             return self.take(delivered)
         return None
 
-    def take(self, delivered: Delivered) -> Taken:
+    def take(self, delivered: StreamDelivery) -> Taken:
         """Reads a message. Refuses one that says that this machine lacks a key."""
         place = self.place if delivered.offset == BEFORE else Place(delivered.offset, digest_of(delivered.body))
         try:
@@ -233,7 +233,7 @@ class Stream:
             self.unwritten.append(self.macs.signed_by(key, text))
             self.write(text)
 
-    def message_of(self, delivered: Delivered) -> Message:
+    def message_of(self, delivered: StreamDelivery) -> Message:
         """Returns what a node wrote. A message that counts nowhere is a MessageFault."""
         return self.macs.message_of(delivered.body, delivered.has_headers)
 
@@ -243,7 +243,7 @@ class Stream:
             self.unacknowledged = 0
             self.reading.basic_ack(tag, multiple=True)
 
-    def check_first(self, delivered: Delivered) -> None:
+    def check_first(self, delivered: StreamDelivery) -> None:
         """Refuses a stream that doesn't begin with what a node writes there, of the journals that are here."""
         if delivered.offset != 0:
             raise Refusal(f"{self.name} doesn't reach back to its beginning, but to message {delivered.offset}: {COPY}")
@@ -258,7 +258,7 @@ class Stream:
             )
         self.is_compared = True
 
-    def compare(self, delivered: Delivered) -> None:
+    def compare(self, delivered: StreamDelivery) -> None:
         """Finds the message again that was read last."""
         offset = delivered.offset
         if offset > self.place.offset:
@@ -298,7 +298,7 @@ class Stream:
             offset = properties.stream_offset
             if not self.is_compared and offset is not None and offset <= self.place.offset:
                 self.unread.clear()
-                self.unread.append(Delivered(0, offset, body))
+                self.unread.append(StreamDelivery(0, offset, body))
                 self.reading = None
                 self.on_more()
 

@@ -15,8 +15,9 @@ from issuer_host.orders.intent_log import Begun, MOST_LINES
 from issuer_host.replication import cluster_keys, positions
 from issuer_host.replication.journal_files import JournalFiles
 from issuer_host.replication.messages import Barrier, LOGS, NOTES, Record
-from issuer_host.replication.notes import as_note, Notes, read_notes, write_notes
-from issuer_host.replication.record_origins import FedLines, Origin, RefusedRecord
+from issuer_host.replication.notes import Notes, as_note, read_notes, write_notes
+from issuer_host.replication.record_origins import FedLines, NOWHERE, Origin, RefusedRecord
+from issuer_host.replication.standby_run import END_SECONDS, StandbyRun, TransientFault
 from runs import PANS, SHARDS, write_bytes, write_text
 
 BARRIER = Barrier(3, "c0ffee", "m1")
@@ -229,9 +230,15 @@ def only_a_node_appends_to_replicated_journals(tally: Tally) -> None:
 
 
 class NoLoop:
-    """A loop that calls nothing: a run is waited for."""
+    """A loop that calls nothing by itself: a run is waited for. It notes what is to be called later."""
 
     READ, WRITE = 1, 4
+
+    def __init__(self) -> None:
+        self.later: "list[tuple[float, Callable[[], object]]]" = []
+
+    def call_later(self, delay: float, callback: Callable[[], object]) -> None:
+        self.later.append((delay, callback))
 
     def add_handler(self, *_: object) -> None:
         pass
@@ -251,7 +258,8 @@ def files_of(host: Host) -> Files:
     faults: "list[Exception]" = []
     command = [*host_command(host), "--feed", "/dev/stdin"]
     loop: Any = NoLoop()
-    found = JournalFiles(loop, host.name, SHARDS, positions.read(host.name), command, "node", faults.append)
+    run = StandbyRun(loop, command, host.name, "node", faults.append)
+    found = JournalFiles(host.name, SHARDS, positions.read(host.name), run)
     found.open()
     return Files(found, faults)
 
@@ -278,7 +286,7 @@ def truncates_what_does_not_count(tally: Tally) -> None:
         journals.counted(journals.record(0, 2))
         journals.put(other)
         journals.counted(other)
-        journals.end_standby_now()
+        journals.standby.end_now()
         with open(host.journal(0), encoding="ascii") as text:
             tally.expect(text.read().splitlines()[1:], [*lines[:3], other.text], "the records then")
         tally.expect((journals.counts()[0], journals.length(0)), (4, 4), "how many count, and how many there are")
@@ -294,7 +302,7 @@ def refuses_a_record_that_is_none(tally: Tally) -> None:
             journals = files_of(host).journals
             journals.origin = Origin("stream", 17, "m2")
             journals.put(record)
-            said = refused(journals.end_standby_now)
+            said = refused(journals.standby.end_now)
             tally.holds(
                 said.startswith(
                     "message 17 of stream, which m2 wrote, has a record that this machine refuses: standby"
@@ -310,6 +318,30 @@ def refuses_a_record_that_is_none(tally: Tally) -> None:
             tally.fail("a record of another shard is put")
         except RefusedRecord as fault:
             tally.holds("no journal here" in str(fault), f"another shard: {fault}")
+
+
+def ends_a_run_of_standby_that_hangs(tally: Tally) -> None:
+    """A run of standby that is to end and doesn't is killed after a while, and the partition begins again."""
+    with new_host(tally) as host:
+        faults: "list[Exception]" = []
+        loop: Any = NoLoop()
+        ends: "list[str]" = []
+        for command in (["/bin/sleep", "600"], ["/bin/cat"]):
+            run = StandbyRun(loop, command, host.name, "node", faults.append)
+            run.put(Record(0, 0, "s nothing"), NOWHERE)
+            process = run.run.process if run.run else None
+            run.end(lambda: ends.append("ended"))
+            if command[0] == "/bin/cat" and run.run is not None:
+                run.run.end()
+            delay, late = loop.later.pop()
+            late()
+            tally.expect(
+                (delay, run.is_running), (END_SECONDS, False), f"when {command} is killed, and whether it runs"
+            )
+            tally.holds(process is not None and process.poll() is not None, f"{command} runs on")
+        said = [str(fault) for fault in faults if isinstance(fault, TransientFault)]
+        tally.expect((len(faults), len(said), ends), (1, 1, ["ended"]), f"the faults {faults}, and what went on")
+        tally.holds("didn't end in 60 seconds" in said[0], f"what is said: {said}")
 
 
 def knows_the_message_of_a_line(tally: Tally) -> None:
@@ -381,6 +413,7 @@ CHECKS = [
         only_a_node_appends_to_replicated_journals,
         truncates_what_does_not_count,
         refuses_a_record_that_is_none,
+        ends_a_run_of_standby_that_hangs,
         knows_the_message_of_a_line,
         notes_are_kept,
         refuses_notes_that_were_changed,

@@ -1,0 +1,71 @@
+"""What a partition of a node reports of its state: lines of the log, and figures."""
+import time
+from typing import NamedTuple
+
+from issuer_host.broker.unacknowledged import Flight
+from issuer_host.commands.entry import without_cards
+from issuer_host.facts.refusal import tell
+from issuer_host.telling.figures import Figures
+from issuer_host.telling.limited import LimitedTelling
+
+# Bytes of a reason that the broker is told.
+REASON = 200
+
+
+class ReplicaState(NamedTuple):
+    """Where a replica is in its stream: what was read, what it needs on, and whether records wait to count."""
+
+    read: int
+    needed: int
+    is_serving: bool
+    counted: int
+    uncounted: int
+
+
+class StateTeller:
+    """Reports a state when it is new, or is so for another reason; and the figures of it."""
+
+    def __init__(self, name: str, figures: Figures) -> None:
+        self.name, self.figures = name, figures
+        self.limited = LimitedTelling(lambda text: tell(self.name, text))
+        self.state = self.why = ""
+        # How many records counted at the last look, and when one counted last, or none waited to.
+        self.counted = 0
+        self.moved = time.monotonic()
+
+    def tell(self, state: str, why: str = "") -> None:
+        if state != self.state or why and why != self.why:
+            tell(self.name, f"{state}: {why}" if why else state)
+            self.why = why
+        self.state = state
+
+    def has_told(self, reason: str) -> bool:
+        """Whether what the broker says is what this partition closed the connection for."""
+        return bool(self.why) and self.why[:REASON] in reason
+
+    def look(self, now: float, found: ReplicaState, flight: Flight) -> None:
+        """Sets the figures."""
+        self.figures.in_flight.set(len(flight))
+        self.figures.oldest.set(flight.age(now))
+        self.figures.read.set(found.read)
+        self.figures.needed.set(found.needed)
+        if not found.is_serving or not found.uncounted or found.counted != self.counted:
+            self.moved = now
+        self.counted = found.counted
+        self.figures.uncounted.set(now - self.moved)
+        self.figures.serving.set(found.is_serving)
+
+    def passed_over(self, stream: str, offset: int, why: str) -> None:
+        """Reports a message that no node wrote: a person finds out who writes there."""
+        self.figures.passed_over.inc()
+        # (what is wrong may have a piece of the message)
+        said = f"message {offset} of {stream} is passed over, as no node wrote it: {without_cards(why)}"
+        self.limited.tell(said)
+
+    def lost(self) -> None:
+        """The connection was lost."""
+        self.figures.losses.inc()
+
+    def stopped(self) -> None:
+        self.figures.serving.set(0)
+        self.figures.stopped.set(1)

@@ -1,0 +1,137 @@
+"""Reads a partition's stream, message after message, and writes again what doesn't come back."""
+import time
+from typing import Any, Protocol
+
+from issuer_host.host.event_loop import Loop
+from issuer_host.replication.journal_files import JournalFiles
+from issuer_host.replication.messages import Message, Records
+from issuer_host.replication.positions import BEFORE, first_text
+from issuer_host.replication.record_origins import Origin, RefusedRecord, refusal_of
+from issuer_host.replication.rule import Bridge, Diverged, State
+from issuer_host.replication.step_guard import StepGuard
+from issuer_host.replication.stream import Stream, Taken
+
+# What didn't come back is written again after so long without any message, and reading begins anew after so long; after
+# longer if nothing is waited for.
+QUIET_SECONDS, DEAF_SECONDS, IDLE_SECONDS = 3.0, 4.0, 30.0
+# So many messages are read before the loop looks after other partitions.
+PIECE = 50
+# While a run of standby has as many lines as it may, nothing is read for so long.
+ROOM_SECONDS = 0.02
+
+
+class MessageWatcher(Protocol):
+    """Who follows what is read."""
+
+    def was_read(self) -> None:
+        """The bridge has read a message."""
+
+    def passed_over(self, offset: int, why: str) -> None:
+        """A message is none that a node wrote."""
+
+
+class StreamReader:
+    """Gives a replica's bridge what its stream delivers."""
+
+    def __init__(
+        self,
+        loop: Loop,
+        guard: StepGuard,
+        stream: Stream,
+        journals: JournalFiles,
+        bridge: Bridge,
+        watcher: MessageWatcher,
+    ) -> None:
+        self.loop, self.guard = loop, guard
+        self.stream, self.journals, self.bridge = stream, journals, bridge
+        self.watcher = watcher
+        # Whether there is something to read, and the loop comes to it.
+        self.is_called = False
+        # When a message was read or written last, and when one was read last, or reading began.
+        self.heard = self.read_at = 0.0
+        # Up to which sequence what was written was written again.
+        self.rewritten = 0
+
+    def open(self, connection: Any) -> None:
+        """Begins to read and to write by a connection."""
+        self.heard = self.read_at = time.monotonic()
+        self.stream.open(connection)
+        if self.stream.place.offset == BEFORE:
+            self.stream.write(first_text(self.stream.place.digest))
+
+    def call(self) -> None:
+        """Has the loop come to what was delivered."""
+        if not self.is_called:
+            self.is_called = True
+            self.loop.add_callback_threadsafe(lambda: self.guard.take(self.read_on))
+
+    def read_on(self) -> None:
+        self.is_called = False
+        for _ in range(PIECE):
+            if not self.journals.standby.has_room():
+                self.is_called = True
+                self.loop.call_later(ROOM_SECONDS, lambda: self.guard.take(self.read_on))
+                break
+            taken = self.stream.next()
+            if taken is None:
+                break
+            self.take(taken)
+        else:
+            self.call()
+        self.journals.standby.flush()
+
+    def take(self, taken: Taken) -> None:
+        """Takes the stream's next message. One that no node wrote counts nowhere, on all machines alike."""
+        self.read_at = time.monotonic()
+        if taken.message is None:
+            self.watcher.passed_over(taken.offset, taken.why)
+        else:
+            self.heard = self.read_at
+            self.read(taken.offset, taken.message)
+
+    def read(self, offset: int, message: Message) -> None:
+        self.journals.origin = Origin(self.stream.name, offset, self.bridge.count.barrier.machine)
+        try:
+            self.bridge.read(message)
+        except (Diverged, RefusedRecord) as fault:
+            raise refusal_of(self.journals.origin, str(fault)) from fault
+        if self.is_gap(message):
+            self.write_again()
+        self.watcher.was_read()
+
+    def is_gap(self, message: Message) -> bool:
+        """Whether a message of this bridge doesn't count, since one before it was lost."""
+        if self.bridge.state is not State.SERVING or not isinstance(message, Records):
+            return False
+        if message.name != self.bridge.barrier.name or message.sequence <= self.rewritten:
+            return False
+        return not all(self.bridge.count.has(*record.at) for record in message.records)
+
+    def wrote(self) -> None:
+        """Records were written: they come back in a while."""
+        self.heard = time.monotonic()
+
+    def write_again(self) -> None:
+        """Writes what didn't come back on a new channel."""
+        self.wrote()
+        self.rewritten = self.bridge.sequence
+        self.stream.write_anew()
+        self.bridge.write_again()
+
+    def look(self, now: float) -> None:
+        """Writes again what didn't come back, and reads by a new channel if nothing comes: nobody tells of either."""
+        is_owed = self.is_owed()
+        if now - self.heard > QUIET_SECONDS:
+            if not self.stream.is_compared:
+                self.stream.probe()
+            if is_owed:
+                self.write_again()
+        if now - self.read_at > (DEAF_SECONDS if is_owed else IDLE_SECONDS):
+            self.read_at = now
+            self.stream.read_anew()
+
+    def is_owed(self) -> bool:
+        """Whether something was written that didn't come back."""
+        if self.bridge.state in (State.READING, State.BEGINNING):
+            return True
+        return self.bridge.state is State.SERVING and any(True for _ in self.bridge.last_uncounted())
