@@ -4,7 +4,8 @@
     answers 64 HEXADECIMAL DIGITS
 
 The second line may be missing. The files of a URL with `amqps` are in the folder of this one, or have whole paths: the
-authority whose certificate the broker shows, and the client's own certificate with its key.
+authority whose certificate the broker shows, and the client's own certificate with its key. This file and that of the
+key are refused if others could open them.
 """
 import os
 import re
@@ -13,6 +14,7 @@ from typing import NamedTuple, Optional
 from urllib.parse import parse_qs, urlsplit, urlunsplit
 
 from issuer_host.facts.refusal import Refusal
+from issuer_host.files.private_files import check_secret
 
 LOCAL = "amqp://127.0.0.1:5672/%2F"
 ENCRYPTED = "amqps"
@@ -36,6 +38,7 @@ def read(path: Optional[str]) -> BrokerFile:
     """Reads a broker file; without one it is the broker of this machine."""
     if not path:
         return BrokerFile(LOCAL, None, "", None)
+    check_secret(path, "broker file", "password")
     with open(path, encoding="utf-8") as text:
         first, *others = text.read().strip().splitlines() or [""]
     parts = urlsplit(first.strip())
@@ -64,6 +67,8 @@ def context_of(words: dict[str, str], folder: str) -> ssl.SSLContext:
     paths = {name: os.path.join(folder, words[name]) for name in FILES if name in words}
     if (CERTIFICATE in paths) != (KEY in paths):
         raise Refusal(f"a broker's URL has both {CERTIFICATE} and {KEY}, or neither")
+    if KEY in paths:
+        check_secret(paths[KEY], "file of the TLS key", "key")
     found = ssl.create_default_context(ssl.Purpose.SERVER_AUTH, cafile=paths.get(AUTHORITY))
     found.minimum_version = ssl.TLSVersion.TLSv1_2
     if CERTIFICATE in paths:

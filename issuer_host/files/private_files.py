@@ -40,7 +40,12 @@ def check_input(path: str) -> None:
 
 
 def check_keys(path: str, owners: Collection[int]) -> None:
-    """Refuses a configuration, with the issuer's keys, that another user owns or can open.
+    """Refuses a configuration, with the issuer's keys, that another user owns or can open."""
+    check_secret(path, "configuration", "keys", owners)
+
+
+def check_secret(path: str, what: str, holds: str, owners: Collection[int] = ()) -> None:
+    """Refuses a file with keys or passwords that another user than root and this one owns or can open.
 
     One that can't be seen is refused by who reads it.
     """
@@ -51,15 +56,12 @@ def check_keys(path: str, owners: Collection[int]) -> None:
     if found.st_nlink == 0:
         # (it has no name: others can't open it)
         return
-    if found.st_uid not in owners:
-        raise Refusal(
-            f"the configuration {path} belongs to user {found.st_uid}, who can read its keys: chown it to root"
-        )
-    if are_others_let_in(path, found, owners):
+    allowed = owners or {0, os.geteuid()}
+    if found.st_uid not in allowed:
+        raise Refusal(f"the {what} {path} belongs to user {found.st_uid}, who can read its {holds}: chown it to root")
+    if are_others_let_in(path, found, allowed):
         mode = f"mode {stat.S_IMODE(found.st_mode):04o}"
-        raise Refusal(
-            f"the configuration {path} has {mode}, so that others could open it, and its keys: chmod 600 {path}"
-        )
+        raise Refusal(f"the {what} {path} has {mode}, so that others could open it, and its {holds}: chmod 600 {path}")
 
 
 def are_others_let_in(path: str, found: os.stat_result, owners: Collection[int]) -> bool:

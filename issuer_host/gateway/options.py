@@ -7,6 +7,7 @@ import ssl
 from typing import NoReturn, Optional
 
 from issuer_host.facts.paths import HOME
+from issuer_host.files.private_files import check_secret
 from issuer_host.gateway.dialect import BadDialect, Dialect, named, read_dialect
 from issuer_host.gateway.frames import GREATEST_FRAME
 from issuer_host.gateway.gateway import Bounds, Listener
@@ -118,6 +119,7 @@ def tls_of(options: argparse.Namespace) -> Optional[ssl.SSLContext]:
         return None
     if None in given:
         raise BadOptions("TLS needs all three: --tls-certificate, --tls-key and --tls-clients")
+    check_secret(options.tls_key, "file of the TLS key", "key")
     try:
         context = ssl.create_default_context(ssl.Purpose.CLIENT_AUTH, cafile=options.tls_clients)
         context.load_cert_chain(options.tls_certificate, options.tls_key)

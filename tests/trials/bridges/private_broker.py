@@ -55,7 +55,7 @@ class PrivateBroker:
     def write(self, name: str, text: str) -> str:
         """Writes a file of the folder, and returns its path."""
         path = os.path.join(self.folder, name)
-        with open(path, "w", encoding="utf-8") as to:
+        with open(os.open(path, os.O_WRONLY | os.O_CREAT | os.O_TRUNC, 0o600), "w", encoding="utf-8") as to:
             to.write(text)
         return path
 
