@@ -3,6 +3,7 @@
 - `facts`: the facts about the program, each stated once
 - `files`: the journals and the files beside them
 - `configuration`: reads a configuration and names its faults
+- `keys`: check values, components, key blocks, and keys that a token wraps
 - `start`: the careful start
 - `host`: one run of the program after another, supervised
 - `orders`: operators' orders and accounts' declines
@@ -33,7 +34,7 @@ and mypy over all Python files of the tree.
 
 # The subpackages in their order: those of an installed copy, and those that need the sources.
 INSTALLED = (
-    *("facts", "files", "configuration", "start", "host", "orders", "broker", "telling", "commands", "gateway"),
+    *("facts", "files", "configuration", "keys", "start", "host", "orders", "broker", "telling", "commands", "gateway"),
     *("replication", "launcher"),
 )
 OF_SOURCES = ("building", "packaging")

@@ -7,6 +7,8 @@
 - `follow`: writes journals as a feed for a standby
 - `halted_cards`: counts halted cards, the command `look`
 - `partition`: divides cards into partitions; `repartition`: moves journals to another number of them
+- `configurations`: the configurations of all partitions
+- `keys`: keys from custodians and other systems, the command `deploy/keys`
 
 `order` is in `orders`, `issuer-run` in `start`, `node` and `rejoin` in `replication`, `gateway` in `gateway`.
 """

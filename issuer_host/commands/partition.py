@@ -27,8 +27,8 @@ from issuer_host.facts.limits import MAX_CARDS
 from issuer_host.facts.masks import name_of_card
 from issuer_host.facts.partitions import partition_configuration, partition_of
 from issuer_host.facts.refusal import Refusal, tell
-from issuer_host.files import configurations
-from issuer_host.files.configurations import Json, name_of
+from issuer_host.commands import configurations
+from issuer_host.commands.configurations import Json, name_of
 from issuer_host.files.folders import sync_folder
 from issuer_host.host import offline
 

@@ -24,8 +24,8 @@ from issuer_host.facts.partitions import partition_configuration, partition_jour
 from issuer_host.facts.refusal import Refusal, tell
 from issuer_host.facts.show_lines import ShownCard
 from issuer_host.facts.statuses import Status
-from issuer_host.files import configurations
-from issuer_host.files.configurations import Json, name_of
+from issuer_host.commands import configurations
+from issuer_host.commands.configurations import Json, name_of
 from issuer_host.files.folders import as_owner, folder_of, open_own
 from issuer_host.files.run_mark import lock_mark
 from issuer_host.host import offline

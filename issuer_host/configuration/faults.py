@@ -153,6 +153,8 @@ def in_element(
             yield found
     if part is TABLE and not broken:
         yield from in_approval(at, element)
+    if part is KEYS:
+        yield from in_wrapped(at, members)
 
 
 def broken_rule(members: Members, offset: int, path: str, name: str, rule: Rule) -> Iterator[tuple[int, str]]:
@@ -162,6 +164,22 @@ def broken_rule(members: Members, offset: int, path: str, name: str, rule: Rule)
         yield offset, f"{path} is missing: it has to be {rule.words}"
     elif not rule.holds(node.value):
         yield node.offset, f"{path} is {rule.shows(node.value)}, and has to be {rule.words}"
+
+
+def in_wrapped(at: str, members: Members) -> Iterator[tuple[int, str]]:
+    """A wrapped key is named, is in no clear member beside, and has its text and its check value."""
+    for name, node in rules_of.wrapped_names(members).items():
+        path = f"{at}.{rules_of.WRAPPED}.{name}"
+        if name not in rules_of.KEY_NAMES:
+            known = ", ".join(rules_of.KEY_NAMES)
+            yield node.offset, f"{at}.{rules_of.WRAPPED} has a member that is no key: keys are {known}"
+        elif members.get(name):
+            yield node.offset, f"{path} is there in clear too: remove the member {name} of the key set"
+        elif not isinstance(node.value, Members):
+            yield node.offset, f"{path} is {rules_of.kind_of(node.value)}, and has to be an object"
+        else:
+            for part, rule in rules_of.WRAPPED_RULES.items():
+                yield from broken_rule(node.value, node.offset, f"{path}.{part}", part, rule)
 
 
 def in_approval(at: str, row: Node) -> Iterator[tuple[int, str]]:

@@ -110,6 +110,14 @@ KEY_SET: dict[str, Rule] = {
 }
 AES_PAIR = ("aes_ac", "aes_smi")
 CONFIDENTIALITY = "smc"
+# Keys that a token wraps: a member of the key set, with a member for each such key, which has these two.
+WRAPPED, WRAPPED_KEY, CHECK_VALUE = "wrapped", "kwp", "kcv"
+WRAPPED_DIGITS, CHECK_DIGITS = 48, 6
+WRAPPED_RULES: dict[str, Rule] = {
+    WRAPPED_KEY: hexadecimal(WRAPPED_DIGITS, shown_as_secret),
+    CHECK_VALUE: hexadecimal(CHECK_DIGITS),
+}
+KEY_NAMES = ("ac", "smi", *AES_PAIR, CONFIDENTIALITY)
 CARD: dict[str, Rule] = {
     "pan": text("a string of 8 to 19 decimal digits", "[0-9]{8,19}", shown_as_pan),
     "psn": text("a string of 2 decimal digits", "[0-9]{2}"),
@@ -141,20 +149,34 @@ FITS_ALL: dict[str, Value] = {
 # empty name.
 KNOWN: dict[str, tuple[str, ...]] = {
     "": ("shards", KEYS.name, CARDS.name, TABLE.name, "partition"),
-    KEYS.name: (*KEY_SET, *AES_PAIR, CONFIDENTIALITY),
+    KEYS.name: (*KEY_SET, *AES_PAIR, CONFIDENTIALITY, WRAPPED),
     CARDS.name: tuple(CARD),
     TABLE.name: tuple(ROW),
 }
 
 
 def rules_of_key_set(members: Members) -> dict[str, Rule]:
-    """Returns what the members of this key set have to be: keys for AES come as a pair."""
+    """Returns what the members of this key set have to be: keys for AES come as a pair, in clear or wrapped."""
+    wrapped = wrapped_names(members)
     rules = dict(KEY_SET)
-    if any(members.get(name) for name in AES_PAIR):
+    if any(members.get(name) or name in wrapped for name in AES_PAIR):
         rules.update(dict.fromkeys(AES_PAIR, MASTER_KEY))
     if members.get(CONFIDENTIALITY):
         rules[CONFIDENTIALITY] = MASTER_KEY
-    return rules
+    if members.get(WRAPPED):
+        rules[WRAPPED] = Rule("an object with a member for each wrapped key", is_object, kind_of)
+    return {name: rule for name, rule in rules.items() if name not in wrapped or members.get(name)}
+
+
+def is_object(value: Value) -> bool:
+    return isinstance(value, Members)
+
+
+def wrapped_names(members: Members) -> dict[str, Node]:
+    """Returns the wrapped keys of a key set by their names; none if it has none."""
+    found = members.get(WRAPPED)
+    items = found.value.items if found and isinstance(found.value, Members) else []
+    return {member.name: member.node for member in items}
 
 
 def text_in(node: Node, name: str) -> str:

@@ -56,6 +56,11 @@ class Request(NamedTuple):
     issuer_data: str
     cryptogram: str
 
+    @property
+    def dki(self) -> int:
+        """The derivation key index: byte 3 of the issuer application data."""
+        return int(self.issuer_data[4:6], 16)
+
 
 class Decided(NamedTuple):
     """A decided request: the reply has the response code, whether the issuer approves, and the bytes for the card."""

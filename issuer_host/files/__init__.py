@@ -9,5 +9,4 @@
 - `durable_lines`: the records of a journal that are durable for certain
 - `card_records`: what journals say of each card's commands and statuses
 - `audit`: the log of who did what
-- `configurations`: the configurations of all partitions
 """

@@ -44,14 +44,15 @@ COMMANDS = {
     "gateway": "issuer-gateway",
     "look": "issuer-look",
     "check": "issuer-check",
+    "keys": "issuer-keys",
     "node": "issuer-node",
     "rejoin": "issuer-rejoin",
 }
 UNIT, STANDBY = "issuer@.service", "issuer-standby@.service"
 # Units that are packaged as they are.
 WHOLE_UNITS = ("issuer-gateway.service", "issuer-node.service")
-# A drop-in of the first two.
-ENCRYPTED = "encrypted-configuration.conf"
+# Drop-ins of the units, for keys at rest.
+DROP_INS = ("encrypted-configuration.conf", "token.conf")
 MANUALS = ("issuer.1", "issuer-journal.5", "issuer-deploy.8", "issuer-gateway.8")
 # All pages: each points to others.
 PAGES = (*sorted(name for name in os.listdir(os.path.join(HOME, "docs")) if name.endswith(".md")), "CHANGELOG.md")
@@ -162,7 +163,8 @@ def add_pages(tree: Tree, maintainer: str) -> None:
     tree.copy(os.path.join(DEPLOY, "README.md"), f"{at}/README.md")
     for name in ("alerts.yml", "dashboard.json"):
         tree.copy(os.path.join(DEPLOY, name), f"{at}/examples/{name}")
-    tree.copy(os.path.join(DEPLOY, "units", ENCRYPTED), f"{at}/examples/{ENCRYPTED}")
+    for name in DROP_INS:
+        tree.copy(os.path.join(DEPLOY, "units", name), f"{at}/examples/{name}")
     for name in ("config", "requests"):
         tree.copy(os.path.join(HOME, "examples", name), f"{at}/examples/{name}")
 

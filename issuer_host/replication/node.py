@@ -33,7 +33,7 @@ from issuer_host.facts.journals import shards_of_files
 from issuer_host.facts.refusal import Refusal, tell
 from issuer_host.facts.statuses import Status
 from issuer_host.replication import cluster_keys, node_file, positions
-from issuer_host.start.careful_start import shards_of
+from issuer_host.start.held_configuration import shards_of
 from issuer_host.start.journal_checks import create_journals
 
 NAME = "node"

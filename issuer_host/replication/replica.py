@@ -21,7 +21,8 @@ from issuer_host.replication.state_teller import ReplicaState
 from issuer_host.replication.step_guard import StepGuard
 from issuer_host.replication.stream import Place as StreamPlace, Stream
 from issuer_host.replication.stream_reader import StreamReader
-from issuer_host.start.careful_start import NODE, shards_of
+from issuer_host.start.careful_start import NODE
+from issuer_host.start.held_configuration import shards_of
 
 
 class ReplicaOwner(Protocol):

@@ -8,6 +8,7 @@ The words from the command on are the program's own; see issuer(1). Before it ha
 - the program is the one whose proof is recorded beside it, or another that --program names
 - standard input, output and error output are open
 - the configuration, with its keys, can be opened by this user and root alone
+- if keys of the configuration are wrapped, the token that ISSUER_TOKEN names unwraps them (`deploy/keys`)
 - a journal exists for each shard of the configuration, and for no shard past them. If none exists, --begin creates
   them, empty, once: the program copies the records of old journals, of version 1, into them. If old journals exist,
   all do
@@ -24,14 +25,14 @@ The words from the command on are the program's own; see issuer(1). Before it ha
 forgets what they lack, and seals are made anew.
 
 Started by root over journals in another user's folder, it goes on as that user, who need not be able to read the
-configuration's file. It allows no core of itself and of the program.
+configuration's file. The program gets such a configuration, and one with wrapped keys, by a pipe that holds it once. No
+core of this command and of the program is allowed.
 
 Each start, and each that is refused, is a line of the log beside the journals (`JOURNAL.audit`).
 
 Otherwise it ends with status 78, and the error output has a sentence on what to do; with 70 there is no proved program;
 with 75 something failed that passes, as a disk that can't be read for a moment.
 """
-import json
 import os
 import sys
 import time
@@ -39,8 +40,7 @@ from collections.abc import Sequence
 from typing import NamedTuple, Optional
 
 from issuer_host.facts.commands import COMMANDS, CONFIG, JOURNAL, OVER_JOURNALS, Option, value_of
-from issuer_host.facts.faults import lasts, refuse_if_lasting
-from issuer_host.facts.limits import MAX_SHARDS
+from issuer_host.facts.faults import lasts
 from issuer_host.facts.memory import keep_from_others
 from issuer_host.facts.paths import PROGRAM, RECORD
 from issuer_host.facts.proof import is_proved
@@ -50,6 +50,7 @@ from issuer_host.files.audit import Audit
 from issuer_host.files.folders import folder_of
 from issuer_host.files.private_files import check_input, check_keys
 from issuer_host.files.seals import ACCEPTS
+from issuer_host.start.held_configuration import read_configuration, with_configuration
 from issuer_host.start.history_checks import APPENDING, check_history
 from issuer_host.start.journal_checks import check_journals, refuse_replicated
 from issuer_host.start.users import become_owner
@@ -100,21 +101,6 @@ def needed(option: Option, words: Sequence[str]) -> str:
     return value
 
 
-def shards_of(path: str) -> int:
-    """Returns the number of shards that a configuration names. The program judges the remainder of it."""
-    try:
-        with open(path, encoding="utf-8") as text:
-            shards = json.load(text)["shards"]
-    except OSError as fault:
-        refuse_if_lasting(fault, f"the configuration {path} can't be read: {fault.strerror}")
-        raise
-    except (ValueError, KeyError, TypeError, RecursionError) as fault:
-        raise Refusal(f"the configuration {path} names no shards; write it again by deploy/partition") from fault
-    if type(shards) is int and 1 <= shards <= MAX_SHARDS:
-        return shards
-    raise Refusal(f"the configuration {path} has {shards!r} shards, and 1 to {MAX_SHARDS} are possible")
-
-
 def check_descriptors() -> None:
     for number, name in enumerate(STREAMS):
         try:
@@ -122,14 +108,6 @@ def check_descriptors() -> None:
         except OSError as fault:
             what = f"{name} is closed, so that a file would take its place; open it, on /dev/null at least"
             raise Refusal(what) from fault
-
-
-def owned(words: list[str]) -> list[str]:
-    """Goes on as the user of the journals' folder. Returns the words to go on with."""
-    config = needed(CONFIG, words)
-    folder = os.path.dirname(needed(JOURNAL, words)) or "."
-    at = words.index(CONFIG.name) + 1
-    return [*words[:at], become_owner(config, folder), *words[at + 1 :]]
 
 
 def owners_of(words: Sequence[str]) -> set[int]:
@@ -173,8 +151,11 @@ def hand_over(start: Start) -> int:
     keep_from_others()
     check_descriptors()
     check_keys(needed(CONFIG, start.words), owners_of(start.words))
-    words = owned(start.words)
-    shards = shards_of(needed(CONFIG, words))
+    words = start.words
+    configuration = read_configuration(needed(CONFIG, words))
+    is_readable = not become_owner(os.path.dirname(needed(JOURNAL, words)) or ".")
+    shards = configuration.shards
+    configuration.unwrap()
     check_journals(needed(JOURNAL, words), shards, start.begins, start.accepts)
     if words[0] in APPENDING and not start.is_node:
         refuse_replicated(needed(JOURNAL, words))
@@ -186,7 +167,7 @@ def hand_over(start: Start) -> int:
         return Status.NO_PROGRAM
     check_history(words[0], needed(JOURNAL, words), shards, start.accepts)
     Audit(needed(JOURNAL, words), NAME).started(words[0], user)
-    os.execv(program, ["issuer", *words])
+    os.execv(program, ["issuer", *with_configuration(words, configuration.path_for_program(is_readable))])
 
 
 def run(words: Sequence[str]) -> int:

@@ -14,7 +14,7 @@ from issuer_host.facts.request_lines import pan_of_line
 from issuer_host.facts.statuses import NOT_RESTARTED
 from issuer_host.gateway.figures import Figures
 from issuer_host.host.supervisor import LOAD_SECONDS
-from issuer_host.packaging.make_deb import ENCRYPTED, standby_of
+from issuer_host.packaging.make_deb import DROP_INS, standby_of
 from runs import content_of, write_text
 
 # The greatest exposure that `systemd-analyze security` may find.
@@ -64,16 +64,24 @@ def a_configuration_may_be_encrypted(tally: Tally) -> None:
     if not shutil.which("systemd-analyze"):
         print("left out: the drop-in of a configuration that is encrypted, for want of systemd-analyze")
         return
-    text = content_of(os.path.join(DEPLOY, "units", ENCRYPTED))
-    for name in UNITS[:2]:
-        with tempfile.TemporaryDirectory() as folder:
-            write_text(folder, name, re.sub("(?m)^ExecStart=.*", "ExecStart=/bin/true", unit_of(name)))
-            os.mkdir(os.path.join(folder, f"{name}.d"))
-            for more, said in (("", ""), ("Nonsense=1\n", "Unknown key")):
-                write_text(folder, f"{name}.d/keys.conf", text + more)
-                unit = os.path.join(folder, name.replace("@", "@0"))
-                ran = run_tool(tally, "systemd-analyze", "verify", "--man=no", unit)
-                tally.holds(ran.returncode == 0 and (said in ran.stderr if said else not ran.stderr), ran.stderr)
+    for drop_in in DROP_INS:
+        for name in UNITS[:2]:
+            takes_drop_in(tally, drop_in, name)
+    for name in UNITS[2:]:
+        takes_drop_in(tally, DROP_INS[-1], name)
+
+
+def takes_drop_in(tally: Tally, drop_in: str, name: str) -> None:
+    """The service manager takes a unit with a drop-in, and finds a line in it that is wrong."""
+    text = content_of(os.path.join(DEPLOY, "units", drop_in))
+    with tempfile.TemporaryDirectory() as folder:
+        write_text(folder, name, re.sub("(?m)^ExecStart=.*", "ExecStart=/bin/true", unit_of(name)))
+        os.mkdir(os.path.join(folder, f"{name}.d"))
+        for more, said in (("", ""), ("Nonsense=1\n", "Unknown key")):
+            write_text(folder, f"{name}.d/keys.conf", text + more)
+            unit = os.path.join(folder, name.replace("@", "@0"))
+            ran = run_tool(tally, "systemd-analyze", "verify", "--man=no", unit)
+            tally.holds(ran.returncode == 0 and (said in ran.stderr if said else not ran.stderr), ran.stderr)
 
 
 def units_restart(tally: Tally) -> None:

@@ -1,10 +1,13 @@
-"""The commands of a page, with what they print, and a shell that runs them.
+"""The commands of a page, with what they print, the folder that they need, and a shell that runs them.
 
 A command is an indented line that begins with `$ `, with the lines of its here-document if it has one. The indented
 lines up to the next command, or to the block's end, are what it prints.
 """
+import hashlib
+import json
 import os
 import re
+import shutil
 import signal
 import subprocess
 from collections.abc import Mapping, Sequence
@@ -17,6 +20,9 @@ from issuer_host.facts.paths import HOME
 MARK = "\x1e"
 INDENT = "    "
 PROMPT = "$ "
+LINKS = ("docs", "examples", "tests")
+# Commands that start the program by themselves: their tree is the folder, so that they start the one that is tried.
+COPIES = ("deploy", "issuer_host", "tools")
 
 
 @dataclass
@@ -79,3 +85,20 @@ def run_shell(
         os.killpg(shell.pid, signal.SIGKILL)
         wrote, complained = shell.communicate()
     return wrote, complained, shell.returncode
+
+
+def lay_out(folder: str, program: str) -> None:
+    """Makes the folder in which a page's commands run."""
+    os.symlink(program, os.path.join(folder, "issuer"))
+    for name in LINKS:
+        os.symlink(os.path.join(HOME, name), os.path.join(folder, name))
+    for name in COPIES:
+        shutil.copytree(
+            os.path.join(HOME, name), os.path.join(folder, name), ignore=shutil.ignore_patterns("__pycache__")
+        )
+    os.mkdir(os.path.join(folder, ".build"))
+    shutil.copy(program, os.path.join(folder, ".build/issuer"))
+    with open(program, "rb") as data:
+        total = hashlib.sha256(data.read()).hexdigest()
+    with open(os.path.join(folder, ".build/issuer.proved"), "w", encoding="utf-8") as record:
+        json.dump({"program": total}, record)

@@ -5,11 +5,13 @@ Each has a member `partition` with its number and how many there are, which the 
 import json
 import os
 from collections.abc import Sequence
-from typing import Any
+from typing import Any, Optional
 
+from issuer_host.configuration.members import CHECK_VALUE, WRAPPED
 from issuer_host.facts.masks import name_of_card
 from issuer_host.facts.partitions import partition_configuration, partition_of
 from issuer_host.facts.refusal import Refusal
+from issuer_host.keys.uses import Use
 
 Json = dict[str, Any]
 
@@ -63,9 +65,36 @@ def name_of(card: Json) -> tuple[str, str]:
     return card["pan"], card["psn"]
 
 
-def folded(key_set: Json) -> Json:
-    """Returns what records depend on in a key set, with its digits in one case."""
-    return {name: value.lower() if name in KEYS else value for name, value in key_set.items() if name != FREE_KEY}
+def is_kept(old: Json, new: Json) -> bool:
+    """Whether a key set has all that records depend on, as it was. A key may come to be wrapped, or cease to be."""
+    kept = (name for name in KEYS if value_of_member(old, name) is not None)
+    return old.get("option") == new.get("option") and all(is_same_key(old, new, name) for name in kept)
+
+
+def is_same_key(old: Json, new: Json, name: str) -> bool:
+    """Whether a key is the same: by its digits if both key sets have it in clear, and else by its check value."""
+    was, now = old.get(name), new.get(name)
+    if isinstance(was, str) and isinstance(now, str):
+        return was.lower() == now.lower()
+    return value_of(old, name) == value_of(new, name)
+
+
+def value_of_member(key_set: Json, name: str) -> Any:
+    return key_set.get(name) or key_set.get(WRAPPED, {}).get(name)
+
+
+def value_of(key_set: Json, name: str) -> Optional[str]:
+    """Returns the check value of a key: that beside a wrapped one, or that of a key in clear."""
+    wrapped = key_set.get(WRAPPED, {}).get(name)
+    if wrapped is not None:
+        return str(wrapped[CHECK_VALUE]).upper()
+    if name not in key_set:
+        return None
+    try:
+        from issuer_host.keys.master_key import check_value
+    except ImportError as fault:
+        raise Refusal(f"check values need {fault.name}: apt-get install python3-cryptography") from None
+    return check_value(Use(name).suite, bytes.fromhex(key_set[name]))
 
 
 def check_keys(old: Sequence[Json], new: Sequence[Json]) -> None:
@@ -73,12 +102,12 @@ def check_keys(old: Sequence[Json], new: Sequence[Json]) -> None:
 
     It may get keys for AES, and `smc` may come, change and go.
     """
-    now = {key_set["dki"]: folded(key_set) for key_set in new}
+    now = {key_set["dki"]: key_set for key_set in new}
     for key_set in old:
         number = key_set["dki"]
         if number not in now:
             raise Refusal(f"the key set with DKI {number} is in use, and is gone: keep it")
-        if not folded(key_set).items() <= now[number].items():
+        if not is_kept(key_set, now[number]):
             what = "is in use, and has other keys or another option: give new keys another DKI"
             raise Refusal(f"the key set with DKI {number} {what}")
 
