@@ -35,6 +35,7 @@ class Refusal(IntEnum):
 REFUSALS = tuple(refusal for refusal in Refusal if refusal is not Refusal.WRONG_KIND)
 # Nothing was recorded, and the same line gets an answer by the history a moment later.
 HELD = (Refusal.PENDING, Refusal.STORE_FAULT)
+HELD_NUMBERS = frozenset(str(int(refusal)) for refusal in HELD)
 
 
 class Kind(NamedTuple):
@@ -44,12 +45,15 @@ class Kind(NamedTuple):
     refusal: str = ""
 
 
+KINDS = {word: Kind(word) for word in ANSWERS}
+
+
 def kind_of(answer: str) -> Kind:
     """Returns the first word of an answer, and a refusal's number."""
-    words = answer.split(" ")
-    if words[0] == REFUSED and len(words) > 1:
-        return Kind(REFUSED, words[1])
-    return Kind(words[0])
+    word, _, rest = answer.partition(" ")
+    if word == REFUSED:
+        return Kind(REFUSED, rest.partition(" ")[0])
+    return KINDS.get(word) or Kind(word)
 
 
 def reply_of(answer: str) -> Optional[str]:
@@ -60,4 +64,4 @@ def reply_of(answer: str) -> Optional[str]:
 
 def is_held(answer: str) -> bool:
     """Whether nothing was recorded for a line that gets its answer when it is sent again a moment later."""
-    return kind_of(answer).refusal in [str(int(refusal)) for refusal in HELD]
+    return kind_of(answer).refusal in HELD_NUMBERS

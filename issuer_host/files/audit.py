@@ -10,14 +10,16 @@ import errno
 import fcntl
 import json
 import os
+from collections.abc import Callable
 from typing import Optional
 
 from issuer_host.facts.answers import RECORDED, kind_of
 from issuer_host.facts.masks import masked
 from issuer_host.facts.refusal import Refusal, tell
-from issuer_host.facts.request_lines import pan_of_line
 from issuer_host.files.folders import as_owner, folder_of
 from issuer_host.files.regular_files import open_regular
+
+Action = Callable[[], object]
 
 ENDING = ".audit"
 # The size past which a file is full, and how many full ones are kept.
@@ -31,8 +33,15 @@ FLAGS = os.O_WRONLY | os.O_CREAT | os.O_APPEND
 class Audit:
     """The log of a partition's journals."""
 
-    def __init__(self, journal: str, name: str, most_bytes: int = MOST_BYTES) -> None:
+    def __init__(
+        self, journal: str, name: str, most_bytes: int = MOST_BYTES, later: Optional[Callable[[Action], object]] = None
+    ) -> None:
+        """`later` calls an action in a moment: lines are written then, together. Without it each is written at once."""
         self.path = journal + ENDING
+        self.later = later
+        # Lines that aren't written yet, and how each begins.
+        self.pending: list[str] = []
+        self.time = ""
         self.name = name
         self.most_bytes = most_bytes
         self.file = -1
@@ -41,14 +50,11 @@ class Audit:
         # Whether the file may end within a line.
         self.is_torn = False
 
-    def answered(self, by: str, line: str, answer: str, uid: Optional[int] = None, number: str = "") -> None:
-        """A host answered a line."""
-        said: dict[str, object] = {"by": by, "what": line[:1], **place_of(answer), "card": card_of(line)}
-        if uid is not None:
-            said |= {"uid": uid}
-        if number:
-            said |= {"order": number}
-        self.note(said)
+    def answered(self, by: str, line: str, pan: str, answer: str, uid: Optional[int] = None, number: str = "") -> None:
+        """A host answered a line of a card."""
+        more = "" if uid is None else f',"uid":{uid}'
+        order = f',"order":{json.dumps(number)}' if number else ""
+        self.add(f'"by":"{by}","what":"{line[:1]}",{place_of(answer)},"card":"{pan and masked(pan)}"{more}{order}')
 
     def started(self, command: str, uid: int, why: str = "") -> None:
         """A start was handed over to the program, or refused. One that can't be noted is told by nobody."""
@@ -57,22 +63,37 @@ class Audit:
         self.note({**said, "uid": uid, **({"why": why} if why else {})})
 
     def note(self, said: "dict[str, object]") -> None:
-        """Appends a line, unless that fails: then the first of such failures is told."""
-        now = datetime.datetime.now(datetime.timezone.utc)
-        time = now.isoformat(timespec="milliseconds").replace("+00:00", "Z")
-        text = json.dumps({"time": time, **said}, separators=(",", ":"))
+        self.add(json.dumps(said, separators=(",", ":"))[1:-1])
+
+    def add(self, members: str) -> None:
+        """Adds a line of these members, and the time."""
+        if not self.pending:
+            now = datetime.datetime.now(datetime.timezone.utc)
+            self.time = now.isoformat(timespec="milliseconds").replace("+00:00", "Z")
+            if self.later is not None:
+                self.later(self.flush)
+        self.pending.append(f'{{"time":"{self.time}",{members}}}\n')
+        if self.later is None:
+            self.flush()
+
+    def flush(self) -> None:
+        """Appends what was added, unless that fails: then the first of such failures is told."""
+        lines, self.pending = self.pending, []
+        if not lines:
+            return
         try:
-            self.append(text.encode() + b"\n")
+            self.append("".join(lines).encode(), len(lines))
             self.is_failing = False
         except (OSError, Refusal) as fault:
             if not self.is_failing:
                 tell(self.name, f"{self.path} isn't written: {fault}")
             self.is_failing = True
 
-    def append(self, text: bytes) -> None:
-        if self.file < 0 or self.lines % LOOK_LINES == 0:
+    def append(self, text: bytes, lines: int) -> None:
+        if self.file < 0 or self.lines >= LOOK_LINES:
             self.look()
-        self.lines += 1
+            self.lines = 0
+        self.lines += lines
         text = b"\n" * self.is_torn + text
         self.is_torn = True
         if os.write(self.file, text) < len(text):
@@ -111,18 +132,11 @@ def is_of_name(file: int, path: str) -> bool:
     return (opened.st_dev, opened.st_ino) == (named.st_dev, named.st_ino)
 
 
-def place_of(answer: str) -> "dict[str, object]":
-    """Returns what an answer says of its record, or of its refusal."""
-    kind = kind_of(answer)
-    if kind.word in RECORDED:
-        shard, index = answer.split(" ")[1:3]
-        return {"kind": kind.word, "shard": int(shard), "place": int(index)}
-    return {"kind": kind.word, "refusal": int(kind.refusal)} if kind.refusal.isdigit() else {"kind": kind.word}
-
-
-def card_of(line: str) -> str:
-    """Returns the masked PAN of a line, or nothing if it has none."""
-    try:
-        return masked(pan_of_line(line))
-    except ValueError:
-        return ""
+def place_of(answer: str) -> str:
+    """Returns what an answer says of its record, or of its refusal, as members of an object."""
+    word, _, rest = answer.partition(" ")
+    if word in RECORDED:
+        shard, index, *_ = rest.split(" ", 2)
+        return f'"kind":"{word}","shard":{shard},"place":{index}'
+    refusal = kind_of(answer).refusal
+    return f'"kind":"{word}","refusal":{int(refusal)}' if refusal.isdigit() else f'"kind":"{word}"'

@@ -165,7 +165,7 @@ class BrokeredHost:
     def takes(self, question: Question) -> bool:
         """Whether a line is put: rarely where the bridge's disk takes no record."""
         policy = self.connection.policies[self.partition]
-        return question.request.is_repeat or policy.may_try(time.monotonic())
+        return policy.full_since is None or question.request.is_repeat or policy.may_try(time.monotonic())
 
     def put(self, question: Question) -> None:
         self.connection.begin(question)

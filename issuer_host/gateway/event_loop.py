@@ -1,6 +1,7 @@
 """The gateway's loop, as a host's supervisor sees it."""
 
 import asyncio
+import threading
 from collections.abc import Callable
 
 
@@ -10,7 +11,7 @@ class AsyncioLoop:
     READ, WRITE = 1, 2
 
     def __init__(self, loop: asyncio.AbstractEventLoop) -> None:
-        self.loop = loop
+        self.loop, self.thread = loop, threading.get_ident()
 
     def start(self) -> None:
         self.loop.run_forever()
@@ -26,7 +27,11 @@ class AsyncioLoop:
             timeout_handle.cancel()
 
     def add_callback_threadsafe(self, callback: Callable[[], object]) -> None:
-        self.loop.call_soon_threadsafe(callback)
+        if threading.get_ident() == self.thread:
+            # (the other way wakes the loop by a system call)
+            self.loop.call_soon(callback)
+        else:
+            self.loop.call_soon_threadsafe(callback)
 
     def add_handler(self, fd: int, handler: Callable[[int, int], None], events: int) -> None:
         add = self.loop.add_reader if events == self.READ else self.loop.add_writer

@@ -35,7 +35,8 @@ class PipeHost:
         """Whether a line is put: not where a person has to act, and rarely where the disk takes no record."""
         if self.refusal is not None:
             return False
-        return question.request.is_repeat or self.serving.retries.may_try(self.loop.time())
+        retries = self.serving.retries
+        return retries.full_since is None or question.request.is_repeat or retries.may_try(self.loop.time())
 
     def put(self, question: Question) -> None:
         self.serving.put(question)

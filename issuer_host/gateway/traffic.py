@@ -35,7 +35,7 @@ class Question(Entry):
         then: Callable[[Optional[str]], None],
     ) -> None:
         """`source` is the connection that asks, and `began` when the message's last byte had arrived."""
-        super().__init__(request.body.encode("ascii"), began)
+        super().__init__(request.body.encode("ascii"), began, request.pan)
         self.number, self.request, self.partition, self.source = number, request, partition, source
         self.then = then
 
@@ -61,7 +61,7 @@ class Traffic:
         self.loop, self.seconds, self.is_ordered, self.figures = loop, seconds, is_ordered, figures
         self.hosts: Sequence[Host] = ()
         self.loads: list[PartitionLoad] = []
-        self.shares = Shares()
+        self.shares, self.has_others = Shares(), False
         self.number = 0
         # In the order in which they were asked; and when the time of each is over, also of those that were answered.
         self.open: dict[int, Question] = {}
@@ -73,31 +73,29 @@ class Traffic:
         """The hosts of all partitions, and how many lines of one may be in flight that gives no answer."""
         self.hosts, self.shares = hosts, shares
         self.loads = [PartitionLoad() for _ in hosts]
+        self.has_others = len(hosts) > 1
 
     def ask(self, request: RequestLine, source: object, began: float, then: Callable[[Optional[str]], None]) -> None:
         self.number += 1
         now, partition = self.loop.time(), partition_of(request.pan, len(self.hosts))
         question = Question(self.number, request, partition, source, began, then)
         load = self.loads[partition]
-        if self.is_above(load, source) or not self.hosts[partition].takes(question):
+        if self.has_others and self.is_above(load, source) or not self.hosts[partition].takes(question):
             question.is_over = True
             then(None)
             return
         load.add(source, now)
         self.open[question.number] = question
         heapq.heappush(self.ends, (began + self.seconds, question.number))
-        if self.is_first(question):
+        if self.is_ordered or self.is_first(question):
             self.hosts[partition].put(question)
 
     def is_above(self, load: PartitionLoad, source: object) -> bool:
         """Whether a partition that gives no answer has its share in flight, of a connection or in all."""
-        has_others = len(self.hosts) > 1
-        return has_others and self.shares.are_full(load, source) and load.is_stalled(self.loop.time())
+        return self.shares.are_full(load, source) and load.is_stalled(self.loop.time())
 
     def is_first(self, question: Question) -> bool:
-        """Whether a line may go to its host: no other one of its card is there, or it doesn't matter."""
-        if self.is_ordered:
-            return True
+        """Whether a line may go to its host: no other one of its card is there."""
         queue = self.cards.setdefault(question.request.pan, {})
         queue[question.number] = question
         return len(queue) == 1
@@ -110,7 +108,8 @@ class Traffic:
             self.figures.late += 1
         else:
             self.end(question, text)
-        self.forgotten(question)
+        if not self.is_ordered:
+            self.forgotten(question)
 
     def forgotten(self, question: Question) -> None:
         """No answer to this line will come any more: the card's next one goes."""
@@ -141,7 +140,7 @@ class Traffic:
                 self.figures.expired += 1
                 self.give_up(question)
         for partition, load in enumerate(self.loads):
-            if len(self.loads) > 1 and self.shares.may_be_above(load) and load.is_stalled(now):
+            if self.has_others and self.shares.may_be_above(load) and load.is_stalled(now):
                 self.shed(partition)
 
     def shed(self, partition: int) -> None:

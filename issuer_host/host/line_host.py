@@ -70,13 +70,6 @@ class AnswerPacer(Protocol):
         """Takes an answer by the action: now, or later in the order of the answers."""
 
 
-class AtOnce:
-    """Each answer may be known at once."""
-
-    def pass_on(self, _: str, take: Action) -> None:
-        take()
-
-
 class LineHost:
     """The owner of a supervised host."""
 
@@ -87,8 +80,9 @@ class LineHost:
         user: HostUser,
         watcher: HostWatcher,
         figures: HostFigures,
-        pacer: AnswerPacer,
+        pacer: Optional[AnswerPacer] = None,
     ) -> None:
+        """Without a pacer each answer may be known at once."""
         self.loop, self.settings = loop, settings
         self.user, self.watcher, self.figures, self.pacer = user, watcher, figures, pacer
         self.lines = LineQueue(settings.window)
@@ -107,13 +101,13 @@ class LineHost:
         self.lines.add(entry)
         if not self.settings.is_batched:
             self.flush()
-        else:
+        elif not self.is_flushing:
             self.flush_soon()
 
     def flush_soon(self) -> None:
         if not self.is_flushing:
             self.is_flushing = True
-            self.loop.call_later(0.0, self.flush)
+            self.loop.add_callback_threadsafe(self.flush)
 
     def flush(self) -> None:
         """Puts what waits to the host, as far as its window goes."""
@@ -122,10 +116,8 @@ class LineHost:
             if self.lines.waiting:
                 self.supervisor.need()
             return
-        while not self.supervisor.is_full:
-            entry = self.lines.next(self.user.may_pass)
-            if entry is None:
-                break
+        # (a run has room for all of a moment past the limit that ends it)
+        while entry := self.lines.next(self.user.may_pass):
             self.supervisor.put(entry.line)
         self.supervisor.flush()
 
@@ -197,7 +189,10 @@ class LineHost:
         self.flush()
 
     def answered(self, text: str) -> None:
-        self.pacer.pass_on(text, lambda: self.take(text))
+        if self.pacer is None:
+            self.take(text)
+        else:
+            self.pacer.pass_on(text, lambda: self.take(text))
 
     def take(self, text: str) -> None:
         """Takes the host's next answer."""

@@ -5,7 +5,7 @@ This is the one place of these times, for bridges, nodes, the gateway, orders, d
 import time
 from typing import Optional
 
-from issuer_host.facts.answers import FRESH, Kind, QUEUED, Refusal, SET, is_held, kind_of
+from issuer_host.facts.answers import FRESH, HELD_NUMBERS, Kind, QUEUED, REFUSED, Refusal, SET, kind_of
 
 # How long a line is held before it is put again, by the refusal's number.
 FULL = str(int(Refusal.STORE_FAULT))
@@ -41,9 +41,12 @@ class RetryPolicy:
 
         `began`: when the line came. A lasting line is held until it is recorded.
         """
+        if self.full_since is None and not answer.startswith(REFUSED):
+            # (most answers: they say nothing new)
+            return None
         kind, now = kind_of(answer), time.monotonic()
         self.note(kind, now)
-        if not is_held(answer):
+        if kind.refusal not in HELD_NUMBERS:
             return None
         if kind.refusal == FULL and self.full_since is not None:
             began = min(began, self.full_since)

@@ -182,7 +182,7 @@ class Supervisor:
             self.act(self.lifecycle.kill("it gave more answers than it got lines"))
             return
         self.owed -= 1
-        self.lifecycle.answered(self.clock())
+        self.lifecycle.answered(time.monotonic())
         if not is_first:
             self.sealing.answer(text)
             self.owner.answered(text)

@@ -15,7 +15,6 @@ from typing import NamedTuple, Optional, Union
 from issuer_host.facts.answers import RECORDED, kind_of
 from issuer_host.facts.masks import name_of_card
 from issuer_host.facts.refusal import tell
-from issuer_host.facts.request_lines import pan_of_line
 from issuer_host.files.card_records import CardRecords
 from issuer_host.host.event_loop import Loop
 from issuer_host.host.line_host import LineHost
@@ -138,7 +137,7 @@ class CardWorks:
         """Whether a line may go to the host now. Otherwise it is kept until the work on its card is done."""
         if not self.cards:
             return True
-        pan = pan_of(entry.line)
+        pan = entry.pan
         if pan not in self.cards or entry in self.before.get(pan, ()):
             return True
         self.cards[pan].append(entry)
@@ -148,7 +147,7 @@ class CardWorks:
         """A line that isn't of work was answered."""
         if not self.before:
             return
-        pan = pan_of(entry.line)
+        pan = entry.pan
         waits = self.before.get(pan, set())
         waits.discard(entry)
         if pan in self.before and not waits:
@@ -165,7 +164,7 @@ class CardWorks:
         queue.append(work)
         if len(queue) > 1:
             return
-        before = {entry for entry in self.hosting.entries() if pan_of(entry.line) == work.pan}
+        before = {entry for entry in self.hosting.entries() if entry.pan == work.pan}
         if before:
             self.before[work.pan] = before
         self.begin(work.pan)
@@ -291,11 +290,3 @@ class CardWorks:
             if not kept:
                 del self.cards[pan]
                 self.before.pop(pan, None)
-
-
-def pan_of(line: bytes) -> str:
-    """Returns the PAN of a line, or nothing if it has none."""
-    try:
-        return pan_of_line(line.decode("ascii"))
-    except ValueError:
-        return ""

@@ -120,7 +120,7 @@ def order(options: Options, texts: Sequence[str]) -> None:
             raise Refusal(f"{fault}.{busy}") from fault
     audit = Audit(options.journal, "order")
     for line, answer in zip((*first, *lines), answers):
-        audit.answered("order", line.text, answer, os.getuid())
+        audit.answered("order", line.text, line.card[0], answer, os.getuid())
     print("\n".join(answers[len(first) :]))
     found = differences([*first, *lines], answers, before, after)
     if found:

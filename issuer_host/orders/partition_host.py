@@ -7,7 +7,7 @@ from issuer_host.facts.request_lines import DECIDE
 from issuer_host.facts.statuses import Status
 from issuer_host.files.audit import Audit
 from issuer_host.host.event_loop import Loop
-from issuer_host.host.line_host import AnswerPacer, AtOnce, HostFigures, HostSettings, LineHost
+from issuer_host.host.line_host import AnswerPacer, HostFigures, HostSettings, LineHost
 from issuer_host.host.lines import Entry
 from issuer_host.host.retry_policy import RetryPolicy
 from issuer_host.orders.declines import Declining, decline_of
@@ -94,8 +94,10 @@ class Serving:
         self.loop, self.figures = loop, figures
         self.requester, self.keeper = requester, keeper
         self.retries = RetryPolicy()
-        self.audit = Audit(settings.journal, settings.name)
-        self.hosting = LineHost(loop, settings, self, self, figures, pacer or AtOnce())
+        # (an answer of the gateway leaves a moment later, once its line is in the log)
+        later = loop.add_callback_threadsafe if settings.is_batched else None
+        self.audit = Audit(settings.journal, settings.name, later=later)
+        self.hosting = LineHost(loop, settings, self, self, figures, pacer)
         notes = file or WorkFile(settings.journal)
         self.works = CardWorks(loop, self.hosting, notes, self.retries, self.work_answered, self.release)
         self.orders = OrderSocket(loop, settings.orders, self.has_host, self.order, settings.name)
@@ -146,18 +148,19 @@ class Serving:
         if entry.is_over:
             self.requester.drop(entry)
             return False
-        return self.works.may_pass(entry)
+        return not self.works.cards or self.works.may_pass(entry)
 
     def answered(self, entry: Entry, text: str) -> None:
         """Takes the host's answer: it is sent, or its line is held for a moment and put again."""
         seconds = self.retries.seconds_of(text, entry.began)
         if seconds is None:
-            self.audit.answered(SWITCH, entry.line.decode("latin-1"), text)
+            self.audit.answered(SWITCH, DECIDE, entry.pan, text)
             self.requester.send(entry, text)
         else:
             self.figures.answered(text, None)
             self.loop.call_later(seconds, lambda: self.put_again(entry))
-        self.works.answered_entry(entry)
+        if self.works.before:
+            self.works.answered_entry(entry)
 
     def put_again(self, entry: Entry) -> None:
         if self.requester.is_current(entry):
@@ -179,7 +182,7 @@ class Serving:
         self.works.add(Ordered(order, uid, told))
 
     def work_answered(self, work: Work, line: str, text: str) -> None:
-        self.audit.answered(work.by, line, text, work.uid, work.number)
+        self.audit.answered(work.by, line, work.pan, text, work.uid, work.number)
 
     # The host
 
@@ -234,4 +237,5 @@ class Serving:
     def end(self) -> None:
         """Kills a host that hasn't ended in time."""
         self.stop()
+        self.audit.flush()
         self.hosting.kill_now(-signal.SIGKILL)
