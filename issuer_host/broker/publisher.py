@@ -17,6 +17,7 @@ thread.
 """
 import collections
 import functools
+import random
 import time
 import uuid
 from collections.abc import Callable, Iterable, Iterator
@@ -26,6 +27,7 @@ from typing import Optional
 from issuer_host.broker import topology
 from issuer_host.broker.connection import Confirm, Link
 from issuer_host.broker.reply_mac import ReplyMacs
+from issuer_host.broker.reply_queue import ReplyQueue
 from issuer_host.broker.types import Channel, Delivery, Properties, Step
 from issuer_host.facts.answers import is_held
 from issuer_host.facts.masks import masked
@@ -96,12 +98,13 @@ class Asker:
         self.seconds = seconds
         self.on_answer = on_answer
         self.loop = new_loop()
-        self.queue = f"{topology.REPLY_PREFIX}{uuid.uuid4().hex}"
         self.macs = ReplyMacs(broker_file)
         # How many answers no bridge wrote.
         self.forged = 0
         parameters = topology.parameters_of(broker_file)
-        self.link = Link(self.loop, parameters, self.steps_of, self.ready, lambda reason: None)
+        user = parameters.credentials.username
+        self.reply_queue = ReplyQueue(user, random.randrange(topology.REPLY_QUEUES))
+        self.link = Link(self.loop, parameters, self.steps_of, self.ready, self.lost)
         self.unasked: Iterator[tuple[int, str]] = iter(())
         # By correlation id.
         self.asked: dict[str, Question] = {}
@@ -150,10 +153,13 @@ class Asker:
                 yield question.line, question.answer
 
     def steps_of(self, channel: Channel) -> list[Step]:
-        return topology.declare_replies(channel, self.queue)
+        return self.reply_queue.steps_of(channel)
+
+    def lost(self, reason: Exception) -> None:
+        self.reply_queue.lost()
 
     def ready(self, channel: Channel) -> None:
-        channel.basic_consume(self.queue, self.take, auto_ack=True)
+        self.reply_queue.read(channel, self.take)
         for question in self.asked.values():
             self.publish(question)
         self.ask_more()
@@ -186,7 +192,7 @@ class Asker:
             body,
             question.correlation,
             lambda how: self.confirmed(question, how),
-            reply_to=self.queue,
+            reply_to=self.reply_queue.name,
         )
 
     def confirmed(self, question: Question, how: Confirm) -> None:

@@ -8,6 +8,7 @@ from issuer_host.broker.connection import Confirm, Link
 from issuer_host.broker.refusing_queues import DeafQueues
 from issuer_host.broker.reply_mac import ReplyMacs
 from issuer_host.broker.unacknowledged import Delivered, Flight
+from issuer_host.facts.limited import LimitedTelling
 from issuer_host.facts.refusal import tell
 from issuer_host.host.event_loop import Loop
 from issuer_host.host.lines import Entry
@@ -15,6 +16,11 @@ from issuer_host.host.lines import Entry
 # An answer that its reply queue refuses is sent again, so often, unless the queue refused others just before.
 TRIES = 3
 AGAIN_SECONDS = 0.2
+# Why a message goes to the dead letters.
+NO_REPLY_QUEUE = "it names no reply queue"
+NO_REQUEST = "it is neither a line of the form A nor an account's decline"
+# Of the name of a queue so many characters are told.
+TOLD_NAME = 80
 
 
 class ReplyFigures(Protocol):
@@ -28,6 +34,9 @@ class ReplyFigures(Protocol):
 
     def answer_dropped(self) -> None:
         """Its reply queue refused it."""
+
+    def body_refused(self) -> None:
+        """A message went to the dead letters."""
 
 
 class Replying:
@@ -47,8 +56,7 @@ class Replying:
         self.macs = macs
         self.figures = figures
         self.on_settled = on_settled
-        # Who tells of it.
-        self.name = name
+        self.log = LimitedTelling(lambda text: tell(name, text))
         self.flight = Flight()
         self.deaf = DeafQueues()
 
@@ -79,6 +87,7 @@ class Replying:
             if how is Confirm.NACKED:
                 self.drop_answer(entry)
             if how is Confirm.RETURNED:
+                self.log.tell(f"an answer found no queue: {told(entry)} isn't bound to {topology.REPLIES} by its name")
                 self.figures.answer_returned()
             self.figures.answered(text, time.monotonic() - entry.began)
             self.settle(entry, True)
@@ -89,6 +98,18 @@ class Replying:
     def drop_answer(self, entry: Delivered) -> None:
         """Drops an answer that its reply queue refuses."""
         if not self.deaf.has(entry.reply_to):
-            tell(self.name, f"a reply queue refused an answer: {str(entry.reply_to)[:80]!r}")
+            self.log.tell(f"a reply queue refused an answer: {told(entry)}")
         self.deaf.add(entry.reply_to)
         self.figures.answer_dropped()
+
+    def refuse(self, entry: Delivered, why: str) -> None:
+        """Sends a message to the dead letters."""
+        whose = f", and is to be answered to {told(entry)}" if entry.reply_to else ""
+        self.log.tell(f"a message of {len(entry.line)} bytes goes to {topology.DEAD}: {why}{whose}")
+        self.figures.body_refused()
+        self.settle(entry, False)
+
+
+def told(entry: Delivered) -> str:
+    """The name of a message's reply queue, as it is told."""
+    return repr(str(entry.reply_to)[:TOLD_NAME])

@@ -2,7 +2,8 @@
 
 Whoever may write to the answers' exchange and sees a correlation id can publish an answer. Where bridges and publishers
 have one key in their broker files, an answer's last line is `mac` and HMAC-SHA-256 over the request's correlation id,
-the request and the answer, each after its length. So no answer stands for another request.
+the request and the answer, each after its length. So no answer stands for another request. A last newline of a request
+doesn't count.
 """
 import hashlib
 import hmac
@@ -37,5 +38,6 @@ class ReplyMacs:
     @staticmethod
     def line_of(key: bytes, correlation: Text, request: bytes, answer: bytes) -> bytes:
         name = correlation.encode() if isinstance(correlation, str) else correlation or b""
-        text = b"".join(struct.pack(">Q", len(part)) + part for part in (name, request, answer))
+        parts = name, request.removesuffix(b"\n"), answer
+        text = b"".join(struct.pack(">Q", len(part)) + part for part in parts)
         return WORD + hmac.new(key, text, hashlib.sha256).hexdigest().encode()

@@ -17,7 +17,8 @@ BRIDGE_MAY = Permissions("^$", "^issuer[.]replies$", "^issuer[.]requests[.][0-9]
 # Of nodes on several machines, which have streams.
 NODE_MAY = Permissions("^$", "^issuer[.](replies|records)$", "^issuer[.]requests[.][0-9]+([.]records)?$")
 REPLY_QUEUES = "^issuer[.]reply[.]"
-PUBLISHER_MAY = Permissions(f"{REPLY_QUEUES}.*", "^issuer[.](requests|reply[.].*)$", "^issuer[.](replies|reply[.].*)$")
+# The numbers of a publisher's reply queues: below `topology.REPLY_QUEUES`.
+NUMBERS = "([0-9]|[1-5][0-9]|6[0-3])"
 # What a publisher has of the broker, and all of them together.
 PUBLISHER_LIMITS = {"max-connections": 64, "max-channels": 64}
 HOST_LIMITS = {"max-queues": 1024}
@@ -52,6 +53,12 @@ def what_is_missing(facts: Facts, expected: Expected) -> list[str]:
     return [*found, *of_queues(facts, expected), *of_bindings(facts, expected), *of_wires(facts)]
 
 
+def publisher_may(user: str) -> Permissions:
+    """Returns what a publisher may: ask, and declare and read the reply queues of its own name, which are few."""
+    own = f"reply[.]{re.escape(user).replace(chr(92) + '-', '-').replace(chr(92) + '.', '[.]')}[.]{NUMBERS}"
+    return Permissions(f"^issuer[.]{own}$", f"^issuer[.](requests|{own})$", f"^issuer[.](replies|{own})$")
+
+
 def of_users(facts: Facts, expected: Expected) -> Iterator[str]:
     if GUEST in facts.users:
         yield "the user guest is there, whose password all know: rabbitmqctl delete_user guest"
@@ -61,7 +68,7 @@ def of_users(facts: Facts, expected: Expected) -> Iterator[str]:
             command = set_permissions(user, may, expected.host)
             yield f"there is no user {user}: rabbitmqctl add_user {user}; then {command}"
     for user in facts.users:
-        may = wanted.get(user, PUBLISHER_MAY)
+        may = wanted.get(user) or publisher_may(user)
         has = facts.permissions.get(user)
         # (a user without permissions may do nothing)
         if user != GUEST and has != may and (has is not None or user in wanted):

@@ -16,6 +16,8 @@ REQUESTS, REPLIES, DEAD = "issuer.requests", "issuer.replies", "issuer.dead"
 RECORDS = "issuer.records"
 STREAM_ENDING = ".records"
 REPLY_PREFIX = "issuer.reply."
+# A publisher's user may declare so many reply queues, by their numbers, and no others.
+REPLY_QUEUES = 64
 QUEUE_LENGTH = 100_000
 DEAD_LENGTH = 10_000
 # Bytes of a message that a queue has room for: no request line is longer.
@@ -64,6 +66,10 @@ def queue_of(partition: int) -> str:
 
 def stream_of(partition: int) -> str:
     return queue_of(partition) + STREAM_ENDING
+
+
+def reply_queue(user: str, number: int) -> str:
+    return f"{REPLY_PREFIX}{user}.{number}"
 
 
 def parameters_of(path: Optional[str]) -> Any:
@@ -129,11 +135,3 @@ def find_partition(channel: Channel, partition: int) -> list[Step]:
     Only deploy/queues declares it, so that bridges need no right to.
     """
     return [lambda then: channel.queue_declare(queue_of(partition), passive=True, callback=then)]
-
-
-def declare_replies(channel: Channel, queue: str) -> list[Step]:
-    """Steps that declare a publisher's reply queue."""
-    return [
-        lambda then: channel.queue_declare(queue, durable=True, arguments=REPLY_ARGUMENTS, callback=then),
-        lambda then: channel.queue_bind(queue, REPLIES, queue, callback=then),
-    ]

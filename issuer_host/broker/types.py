@@ -43,7 +43,9 @@ class Channel(Protocol):
         queue: str,
         on_message_callback: OnMessage,
         auto_ack: bool = False,
+        exclusive: bool = False,
         arguments: Optional[Mapping[str, object]] = None,
+        callback: Optional[Callback] = None,
     ) -> str:
         ...
 

@@ -3,6 +3,7 @@ import collections
 from typing import NamedTuple, Optional
 
 from issuer_host.broker.types import Channel, Delivery, Properties
+from issuer_host.broker.wire import KEPT
 from issuer_host.host.lines import Entry
 
 
@@ -20,9 +21,17 @@ class Delivered(Entry):
         self.settled: Optional[bool] = None
 
 
-def entry_of(delivery: Delivery, properties: Properties, line: bytes) -> Delivered:
+def entry_of(delivery: Delivery, properties: Properties, body: bytes) -> Delivered:
     """Returns the request that a message brought."""
-    return Delivered(delivery.delivery_tag, line, properties.reply_to or "", properties.correlation_id)
+    return Delivered(delivery.delivery_tag, line_of(body), properties.reply_to or "", properties.correlation_id)
+
+
+def line_of(body: bytes) -> bytes:
+    """Returns the line of a body, or the lines of an account's decline, without a last newline.
+
+    A body that is as long as what is kept of one may have more bytes than these: it is no line.
+    """
+    return body[:-1] if body.endswith(b"\n") and len(body) < KEPT else body
 
 
 class Settlement(NamedTuple):

@@ -33,7 +33,7 @@ from typing import Any, NamedTuple, NoReturn, Optional
 
 from issuer_host.broker import topology
 from issuer_host.broker.connection import Link
-from issuer_host.broker.replies import Replying
+from issuer_host.broker.replies import NO_REPLY_QUEUE, NO_REQUEST, Replying
 from issuer_host.broker.reply_mac import ReplyMacs
 from issuer_host.broker.types import Callback, Channel, Delivery, Properties, Step
 from issuer_host.broker.unacknowledged import entry_of
@@ -162,9 +162,10 @@ class Bridge:
     def take(self, _: Channel, delivery: Delivery, properties: Properties, body: bytes) -> None:
         entry = entry_of(delivery, properties, body)
         self.flight.add(entry)
-        if not properties.reply_to or not self.serving.take(entry):
-            self.figures.bodies.inc()
-            self.replying.settle(entry, False)
+        if not entry.reply_to:
+            self.replying.refuse(entry, NO_REPLY_QUEUE)
+        elif not self.serving.take(entry):
+            self.replying.refuse(entry, NO_REQUEST)
 
     # What the host calls
 

@@ -30,13 +30,13 @@ class LiveAsker(Asker):
         super().__init__(partitions, broker_file, seconds=math.inf)
         self.connection = connection
         self.limited = Limited()
-        self.link.on_lost = self.lost
 
     def ready(self, channel: Channel) -> None:
         super().ready(channel)
         self.connection.from_thread(self.connection.connected, True)
 
     def lost(self, reason: Exception) -> None:
+        super().lost(reason)
         self.limited.tell(f"no connection to the broker: {reason!r}")
         self.connection.from_thread(self.connection.connected, False)
 

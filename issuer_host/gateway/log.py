@@ -4,7 +4,7 @@ import time
 from typing import Callable
 
 from issuer_host.facts import refusal
-from issuer_host.telling.limited import LINES_A_SECOND, LimitedTelling
+from issuer_host.facts.limited import LINES_A_SECOND, LimitedTelling
 
 NAME = "gateway"
 

@@ -1,6 +1,7 @@
 """The host that a node runs for a partition while it serves, and what is put to it."""
 from typing import Optional
 
+from issuer_host.broker.replies import NO_REPLY_QUEUE, NO_REQUEST
 from issuer_host.broker.unacknowledged import Delivered
 from issuer_host.facts.refusal import Refusal
 from issuer_host.facts.statuses import Status, meaning_of
@@ -35,7 +36,7 @@ class NodeHost:
         figures: Figures,
         consumer: QueueConsumer,
     ) -> None:
-        self.loop, self.guard, self.figures, self.consumer = loop, guard, figures, consumer
+        self.loop, self.guard, self.consumer = loop, guard, consumer
         # The replica whose journals the host has; None while the partition has none.
         self.replica: Optional[Replica] = None
         # How many hosts in turn ended before they had loaded the journals.
@@ -59,9 +60,10 @@ class NodeHost:
         """Puts a request to the host, if this machine serves: else it waits for that."""
         if not self.serving.is_served:
             return
-        if not entry.reply_to or not self.serving.take(entry):
-            self.figures.bodies.inc()
-            self.consumer.refuse(entry)
+        if not entry.reply_to:
+            self.consumer.refuse(entry, NO_REPLY_QUEUE)
+        elif not self.serving.take(entry):
+            self.consumer.refuse(entry, NO_REQUEST)
 
     def kill(self) -> None:
         """Kills the host. Nobody is answered, and it has ended when this returns."""

@@ -105,9 +105,9 @@ class QueueConsumer:
         else:
             self.taker.delivered(entry)
 
-    def refuse(self, entry: Delivered) -> None:
+    def refuse(self, entry: Delivered, why: str) -> None:
         """Gives a message that is no request to the dead letters."""
-        self.replies.settle(entry, False)
+        self.replies.refuse(entry, why)
 
     def unsettled(self) -> "list[Delivered]":
         """Returns the requests in flight that have no answer, in the order of delivery."""

@@ -6,7 +6,7 @@ from issuer_host.broker.unacknowledged import Flight
 from issuer_host.commands.entry import without_cards
 from issuer_host.facts.refusal import tell
 from issuer_host.telling.figures import Figures
-from issuer_host.telling.limited import LimitedTelling
+from issuer_host.facts.limited import LimitedTelling
 
 # Bytes of a reason that the broker is told.
 REASON = 200

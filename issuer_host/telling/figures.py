@@ -118,6 +118,9 @@ class Figures:
     def answer_returned(self) -> None:
         self.returned.inc()
 
+    def body_refused(self) -> None:
+        self.bodies.inc()
+
     def answer_dropped(self) -> None:
         self.dropped.inc()
 

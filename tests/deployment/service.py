@@ -147,6 +147,9 @@ def alerts_have_the_programs_numbers(tally: Tally) -> None:
     tally.expect([re.findall(r"\d+", one) for one in said], [statuses], "the statuses that need a person")
     loads = re.findall(r"issuer_host_start_seconds\) > (\d+)", text)
     tally.expect(loads, [str(int(LOAD_SECONDS))], "how long a start takes that loads little")
+    early = re.findall(r"> (\d+)\n(?:.*\n){3}.* 80 % of (?:its|the) (\d+) ", text)
+    tally.expect([int(most) for most, _ in early], [int(limit) * 4 // 5 for _, limit in early], "80 % of limits")
+    tally.expect(len(early), 3, "rules that say of 80 %")
     for bytes_of, kibibytes in re.findall(r"unwritten_bytes\) > (\d+)(?:.*\n){5}.*?(\d+) KiB", text):
         tally.expect(int(bytes_of), 1024 * int(kibibytes), "how far a standby is behind, in the rule and in words")
 

@@ -1,14 +1,12 @@
 """A publisher before a cluster: it asks on at another node where its own is gone."""
 import itertools
 import time
-import uuid
 from collections.abc import Iterable, Iterator, Sequence
 from typing import Any, Optional
 
 from issuer_host.broker import topology
 from issuer_host.broker.connection import Link
 from issuer_host.broker.publisher import OnAnswer
-from issuer_host.broker.types import Channel, Step
 from trials.bridges.patient import PatientAsker
 from trials.machines.brokers import HEARTBEAT_SECONDS
 
@@ -41,13 +39,9 @@ class ClusterAsker(PatientAsker):
         on_answer: Optional[OnAnswer] = None,
     ) -> None:
         super().__init__(partitions, files[0], window, seconds, on_answer)
-        link = ClusterLink(self.loop, None, self.steps_of, self.ready, lambda reason: None)
+        link = ClusterLink(self.loop, None, self.steps_of, self.ready, self.lost)
         link.nodes = itertools.cycle(list(map(parameters_of, files)))
         self.link = link
-
-    def steps_of(self, channel: Channel) -> list[Step]:
-        self.queue = f"{topology.REPLY_PREFIX}{uuid.uuid4().hex}"
-        return super().steps_of(channel)
 
 
 class PacedAsker(ClusterAsker):

@@ -13,7 +13,7 @@ import time
 from collections.abc import Callable, Mapping
 from typing import Optional
 
-from issuer_host.broker.rules import NODE_MAY, OPERATOR_MAY, PUBLISHER_LIMITS, PUBLISHER_MAY
+from issuer_host.broker.rules import NODE_MAY, OPERATOR_MAY, PUBLISHER_LIMITS, publisher_may
 from issuer_host.broker.settings import Permissions
 from issuer_host.broker.topology import MAX_MESSAGE, stream_of
 from issuer_host.facts.paths import HOME
@@ -25,7 +25,7 @@ from trials.machines.network import Machine, Network
 REJOIN = os.path.join(HOME, "deploy", "rejoin")
 PORT, BETWEEN_NODES = 5672, 25672
 OPERATOR, NODE, PUBLISHER = "issuer-operator", "issuer-bridge", "publisher"
-USERS: Mapping[str, Permissions] = {OPERATOR: OPERATOR_MAY, NODE: NODE_MAY, PUBLISHER: PUBLISHER_MAY}
+USERS: Mapping[str, Permissions] = {OPERATOR: OPERATOR_MAY, NODE: NODE_MAY, PUBLISHER: publisher_may(PUBLISHER)}
 # How long a machine is believed in that no longer answers, and how long a connection to one that is gone is tried.
 TICK_SECONDS, SETUP_SECONDS, HEARTBEAT_SECONDS = 8, 2, 4
 # (on a busy machine with the lowest share it takes minutes)
