@@ -49,7 +49,7 @@ class Unanswered(Exception):
     """No answer in time. The line may be recorded all the same: ask again, the answer is then `kept`."""
 
 
-class Question:
+class PublishedRequest:
     """A line that is asked, and its answer once it came."""
 
     __slots__ = ("number", "line", "partition", "correlation", "published", "began", "held", "answer")
@@ -80,7 +80,7 @@ class Known:
         self.ids.add(correlation)
 
 
-OnAnswer = Callable[[Question, str], object]
+OnAnswer = Callable[[PublishedRequest, str], object]
 
 
 class Asker:
@@ -107,12 +107,12 @@ class Asker:
         self.link = Link(self.loop, parameters, self.steps_of, self.ready, self.lost)
         self.unasked: Iterator[tuple[int, str]] = iter(())
         # By correlation id.
-        self.asked: dict[str, Question] = {}
+        self.asked: dict[str, PublishedRequest] = {}
         self.known = Known()
         # How many answers came again, and how many messages were published.
         self.repeats = 0
         self.published = 0
-        self.results: collections.deque[Question] = collections.deque()
+        self.results: collections.deque[PublishedRequest] = collections.deque()
         self.fault: Optional[Exception] = None
         self.is_waiting = False
 
@@ -172,7 +172,7 @@ class Asker:
                 self.is_waiting = False
                 break
             number, line = found
-            question = Question(number, line, self.partition_of(line))
+            question = PublishedRequest(number, line, self.partition_of(line))
             self.asked[question.correlation] = question
             self.publish(question)
         if not self.asked and not self.is_waiting:
@@ -182,7 +182,7 @@ class Asker:
         """Returns the partition that a line goes to: that of its card."""
         return partition_of(pan_of_line(line), self.partitions)
 
-    def publish(self, question: Question) -> None:
+    def publish(self, question: PublishedRequest) -> None:
         question.published = time.monotonic()
         self.published += 1
         body = question.line.encode("ascii")
@@ -195,14 +195,14 @@ class Asker:
             reply_to=self.reply_queue.name,
         )
 
-    def confirmed(self, question: Question, how: Confirm) -> None:
+    def confirmed(self, question: PublishedRequest, how: Confirm) -> None:
         if how is Confirm.RETURNED:
             what = f"partition {question.partition} has no queue: is the number of partitions right?"
             self.fail(RuntimeError(what))
         elif how is Confirm.NACKED:
             self.loop.call_later(FULL_SECONDS, lambda: self.publish_again(question))
 
-    def publish_again(self, question: Question) -> None:
+    def publish_again(self, question: PublishedRequest) -> None:
         if self.link.channel and not question.answer:
             self.publish(question)
 
@@ -221,7 +221,7 @@ class Asker:
             return
         self.finish(question, text)
 
-    def finish(self, question: Question, text: str) -> None:
+    def finish(self, question: PublishedRequest, text: str) -> None:
         """A question has its answer."""
         del self.asked[question.correlation]
         self.known.add(question.correlation)
@@ -243,7 +243,7 @@ class Asker:
                 self.publish(question)
         self.loop.call_later(TICK_SECONDS, self.tick)
 
-    def why_unanswered(self, question: Question) -> str:
+    def why_unanswered(self, question: PublishedRequest) -> str:
         who = f"line {question.number + 1}, of card {masked(pan_of_line(question.line))}"
         return f"no answer to {who}, in {self.seconds:.0f} s; ask again, and it is `kept` if it was recorded"
 

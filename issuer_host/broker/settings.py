@@ -37,7 +37,7 @@ class Permissions(NamedTuple):
     read: str
 
 
-class Listener(NamedTuple):
+class BrokerListener(NamedTuple):
     """Where the broker can be reached."""
 
     protocol: str
@@ -68,7 +68,7 @@ class Facts(NamedTuple):
     max_message_size: int
     verifies: bool
     needs_certificate: bool
-    listeners: list[Listener]
+    listeners: list[BrokerListener]
 
 
 class Control:
@@ -155,5 +155,5 @@ def facts_of(control: Control) -> Facts:
         settings["max_message_size"],
         settings["verifies"],
         settings["needs_certificate"],
-        [Listener(row["protocol"], row["address"], row["port"]) for row in settings["listeners"]],
+        [BrokerListener(row["protocol"], row["address"], row["port"]) for row in settings["listeners"]],
     )

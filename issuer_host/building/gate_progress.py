@@ -25,7 +25,7 @@ TELL_SECONDS = 60.0
 SETTLED = 300.0
 
 
-class Work(NamedTuple):
+class GateWork(NamedTuple):
     """What a gate does of one kind: the crates that it does it for, with the processor seconds that each takes."""
 
     pattern: re.Pattern[str]
@@ -43,21 +43,21 @@ def text_of(path: str) -> str:
         return text.read()
 
 
-def work_of_gate() -> list[Work]:
+def work_of_gate() -> list[GateWork]:
     """Returns all that the gate does over this tree."""
     crates = list(rows_of(HOME))
     edits = {name: len(glob.glob(f"{HOME}/crates/{name}/must-fail/*.edit")) for name in crates}
     return [
-        Work(PROOF, "crates proved", known_seconds(crates)),
-        Work(TESTS, "crates' tests proved", {name: TESTS_SECONDS for name in crates if has_tests(name)}),
-        Work(EDITS, "crates' edits begun", {name: EDIT_SECONDS * count for name, count in edits.items() if count}),
+        GateWork(PROOF, "crates proved", known_seconds(crates)),
+        GateWork(TESTS, "crates' tests proved", {name: TESTS_SECONDS for name in crates if has_tests(name)}),
+        GateWork(EDITS, "crates' edits begun", {name: EDIT_SECONDS * count for name, count in edits.items() if count}),
     ]
 
 
 class GateProgress:
     """How much of the gate's work is done, and how long the rest takes at this pace."""
 
-    def __init__(self, work: list[Work]) -> None:
+    def __init__(self, work: list[GateWork]) -> None:
         self.work = work
         self.done: list[set[str]] = [set() for _ in work]
         self.began = self.told_at = self.clock()

@@ -34,7 +34,7 @@ class Done(NamedTuple):
     seconds: float
 
 
-class Running(NamedTuple):
+class RunningTask(NamedTuple):
     task: Task
     process: "subprocess.Popen[bytes]"
     wrote: IO[bytes]
@@ -55,7 +55,7 @@ def lanes_for(bytes_of_each: int) -> int:
     return max(1, min(len(os.sched_getaffinity(0)), free // bytes_of_each))
 
 
-def start(task: Task) -> Running:
+def start(task: Task) -> RunningTask:
     """Starts a task; no thread runs meanwhile. Where the launcher is killed, the toolchain ends what it started."""
     wrote = tempfile.TemporaryFile()
     process = subprocess.Popen(
@@ -66,12 +66,12 @@ def start(task: Task) -> Running:
         stderr=subprocess.STDOUT,
         preexec_fn=ending_with_launcher(signal.SIGTERM),
     )
-    return Running(task, process, wrote, time.monotonic())
+    return RunningTask(task, process, wrote, time.monotonic())
 
 
 def side_by_side(tasks: Sequence[Task], lanes: int) -> Iterator[Done]:
     """Runs the tasks, the first ones first, and yields each as it ends."""
-    waiting, running = list(tasks), list[Running]()
+    waiting, running = list(tasks), list[RunningTask]()
     told_at = began = time.monotonic()
     try:
         while waiting or running:
@@ -94,6 +94,6 @@ def side_by_side(tasks: Sequence[Task], lanes: int) -> Iterator[Done]:
             run.process.wait()
 
 
-def told(running: Sequence[Running], waiting: Sequence[Task], seconds: float) -> str:
+def told(running: Sequence[RunningTask], waiting: Sequence[Task], seconds: float) -> str:
     names = ", ".join(run.task.name for run in running)
     return f"after {minutes(seconds)} {names} run, and {len(waiting)} wait"

@@ -20,11 +20,11 @@ from collections.abc import Sequence
 from typing import NamedTuple, Optional
 
 from issuer_host.broker.messages import messages_of
-from issuer_host.broker.publisher import Asker, Question, Unanswered
+from issuer_host.broker.publisher import Asker, PublishedRequest, Unanswered
 from issuer_host.facts.refusal import Refusal, tell
 
 
-class Options(NamedTuple):
+class AskOptions(NamedTuple):
     """The words of the command."""
 
     partitions: int
@@ -33,21 +33,21 @@ class Options(NamedTuple):
     seconds: float
 
 
-def options_of(words: Sequence[str]) -> Options:
+def options_of(words: Sequence[str]) -> AskOptions:
     parser = argparse.ArgumentParser(usage=__doc__)
     parser.add_argument("--partitions", type=int, required=True)
     parser.add_argument("--broker-file")
     parser.add_argument("--window", type=int, default=64)
     parser.add_argument("--seconds", type=float, default=60.0)
-    return Options(**vars(parser.parse_args(words)))
+    return AskOptions(**vars(parser.parse_args(words)))
 
 
-def ask(options: Options, messages: Sequence[str]) -> None:
+def ask(options: AskOptions, messages: Sequence[str]) -> None:
     """Asks all messages, and prints the answers as far as there is one for each before."""
     answers: dict[int, str] = {}
     printed = 0
 
-    def answered(question: Question, text: str) -> None:
+    def answered(question: PublishedRequest, text: str) -> None:
         answers[question.number] = text
 
     try:

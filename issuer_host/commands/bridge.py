@@ -51,7 +51,7 @@ TICK_SECONDS = 1.0
 STOP_SECONDS = 5.0
 
 
-class Options(NamedTuple):
+class BridgeOptions(NamedTuple):
     """The words of the command."""
 
     partition: int
@@ -66,7 +66,7 @@ class Options(NamedTuple):
     program: Optional[str]
 
 
-def options_of(words: Sequence[str]) -> Options:
+def options_of(words: Sequence[str]) -> BridgeOptions:
     parser = argparse.ArgumentParser(usage=__doc__)
     parser.add_argument("--partition", type=int, required=True)
     parser.add_argument("--config", required=True)
@@ -79,7 +79,7 @@ def options_of(words: Sequence[str]) -> Options:
     parser.add_argument("--figures", type=int, default=0)
     parser.add_argument("--program")
     parser.error = refuse_words  # type: ignore[assignment]
-    return Options(**vars(parser.parse_args(words)))
+    return BridgeOptions(**vars(parser.parse_args(words)))
 
 
 def refuse_words(message: str) -> NoReturn:
@@ -88,10 +88,10 @@ def refuse_words(message: str) -> NoReturn:
     sys.exit(Status.USAGE)
 
 
-class Bridge:
+class BrokerBridge:
     """Between the broker's queue and the partition's host."""
 
-    def __init__(self, options: Options) -> None:
+    def __init__(self, options: BridgeOptions) -> None:
         self.options = options
         self.status: int = Status.OK
         self.loop = new_loop()
@@ -116,7 +116,7 @@ class Bridge:
         for number in (signal.SIGTERM, signal.SIGINT):
             signal.signal(number, lambda *_: self.loop.add_callback_threadsafe(self.stop))
         self.link.open()
-        self.serving.begin()
+        self.serving.orders.open()
         self.tick()
         self.loop.start()
         self.serving.end()
@@ -216,7 +216,7 @@ class Bridge:
 
 def main(words: Sequence[str]) -> int:
     try:
-        return Bridge(options_of(words)).run()
+        return BrokerBridge(options_of(words)).run()
     except Refusal as refusal:
         tell(NAME, str(refusal))
         return Status.REFUSED

@@ -49,7 +49,7 @@ class Closed(Exception):
     """Nobody reads the output any more."""
 
 
-class Options(NamedTuple):
+class FollowOptions(NamedTuple):
     """The words of the command."""
 
     journal: str
@@ -61,7 +61,7 @@ class Options(NamedTuple):
     seals: bool
 
 
-def options_of(words: Sequence[str]) -> Options:
+def options_of(words: Sequence[str]) -> FollowOptions:
     parser = argparse.ArgumentParser(usage=__doc__)
     parser.add_argument("--journal", required=True)
     parser.add_argument("--from", dest="starts", default="")
@@ -70,7 +70,7 @@ def options_of(words: Sequence[str]) -> Options:
     parser.add_argument("--every", type=float, default=0.02)
     parser.add_argument("--figures")
     parser.add_argument("--seals", action="store_true")
-    return Options(**vars(parser.parse_args(words)))
+    return FollowOptions(**vars(parser.parse_args(words)))
 
 
 class Output:

@@ -20,7 +20,7 @@ from issuer_host.host import offline
 from issuer_host.telling import textfile
 
 
-class Options(NamedTuple):
+class HaltedCardsOptions(NamedTuple):
     """The words of the command."""
 
     config: str
@@ -30,17 +30,17 @@ class Options(NamedTuple):
     program: Optional[str]
 
 
-def options_of(words: Sequence[str]) -> Options:
+def options_of(words: Sequence[str]) -> HaltedCardsOptions:
     parser = argparse.ArgumentParser(usage=__doc__)
     parser.add_argument("--config", required=True)
     parser.add_argument("--journal", required=True)
     parser.add_argument("--figures", required=True)
     parser.add_argument("--partition", type=int, default=0)
     parser.add_argument("--program")
-    return Options(**vars(parser.parse_args(words)))
+    return HaltedCardsOptions(**vars(parser.parse_args(words)))
 
 
-def look(options: Options) -> None:
+def look(options: HaltedCardsOptions) -> None:
     """Shows a copy of the journals. A record that is written meanwhile is a torn last line of the copy, or is in it."""
     with tempfile.TemporaryDirectory(prefix="issuer-look-") as room:
         paths = journals_of(options.journal)

@@ -42,7 +42,7 @@ MEMBERS = ("shards", "keys", "table")
 COMFORTABLE = 3700
 
 
-class Options(NamedTuple):
+class PartitionOptions(NamedTuple):
     """The words of the command."""
 
     of: int
@@ -52,14 +52,14 @@ class Options(NamedTuple):
     program: Optional[str]
 
 
-def options_of(words: Sequence[str]) -> Options:
+def options_of(words: Sequence[str]) -> PartitionOptions:
     parser = argparse.ArgumentParser(usage=__doc__)
     parser.add_argument("--of", type=int, required=True)
     parser.add_argument("--cards", required=True)
     parser.add_argument("--template", required=True)
     parser.add_argument("--to", required=True)
     parser.add_argument("--program")
-    return Options(**vars(parser.parse_args(words)))
+    return PartitionOptions(**vars(parser.parse_args(words)))
 
 
 def cards_of(path: str) -> list[Json]:
@@ -175,7 +175,7 @@ def judge(folder: str, room: str, number: int, program: Optional[str]) -> None:
         raise Refusal(f"the program refuses the configuration of partition {number}: {fault}") from fault
 
 
-def partition(options: Options) -> None:
+def partition(options: PartitionOptions) -> None:
     if options.of < 1:
         raise Refusal("there is at least one partition")
     os.makedirs(options.to, mode=0o700, exist_ok=True)

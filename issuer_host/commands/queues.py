@@ -35,7 +35,7 @@ from issuer_host.facts.refusal import Refusal, tell
 SAVED_SECONDS = 2
 
 
-class Options(NamedTuple):
+class QueuesOptions(NamedTuple):
     """The words of the command."""
 
     partitions: int
@@ -66,7 +66,7 @@ class Once:
         return call
 
 
-def options_of(words: Sequence[str]) -> Options:
+def options_of(words: Sequence[str]) -> QueuesOptions:
     parser = argparse.ArgumentParser(usage=__doc__)
     parser.add_argument("--partitions", type=int, required=True)
     parser.add_argument("--streams", action="store_true")
@@ -77,10 +77,10 @@ def options_of(words: Sequence[str]) -> Options:
     parser.add_argument("--bridge", default="issuer-bridge")
     parser.add_argument("--vhost", default="/")
     parser.add_argument("--control", default=COMMAND)
-    return Options(**vars(parser.parse_args(words)))
+    return QueuesOptions(**vars(parser.parse_args(words)))
 
 
-def declare(options: Options) -> None:
+def declare(options: QueuesOptions) -> None:
     connection = pika.BlockingConnection(topology.parameters_of(options.broker_file))
     channel = cast(Channel, Once(connection.channel()))
     steps = topology.declare_exchanges(channel)
@@ -96,7 +96,7 @@ def declare(options: Options) -> None:
     connection.close()
 
 
-def check(options: Options) -> list[str]:
+def check(options: QueuesOptions) -> list[str]:
     """Returns what the broker lacks."""
     expected = Expected(options.partitions, options.operator, options.bridge, options.vhost, options.streams)
     found = what_is_missing(facts_of(Control(options.control, options.vhost)), expected)
@@ -106,7 +106,7 @@ def check(options: Options) -> list[str]:
     return found
 
 
-def run_check(options: Options) -> int:
+def run_check(options: QueuesOptions) -> int:
     found = check(options)
     for line in found:
         print(f"missing: {line}")
@@ -115,7 +115,7 @@ def run_check(options: Options) -> int:
     return 1 if found else 0
 
 
-def run(options: Options) -> int:
+def run(options: QueuesOptions) -> int:
     if options.check:
         return run_check(options)
     declare(options)

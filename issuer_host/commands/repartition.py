@@ -32,7 +32,7 @@ from issuer_host.host import offline
 from issuer_host.host.offline import Card
 
 
-class Options(NamedTuple):
+class RepartitionOptions(NamedTuple):
     """The words of the command."""
 
     old: list[str]
@@ -40,12 +40,12 @@ class Options(NamedTuple):
     program: Optional[str]
 
 
-def options_of(words: Sequence[str]) -> Options:
+def options_of(words: Sequence[str]) -> RepartitionOptions:
     parser = argparse.ArgumentParser(usage=__doc__)
     parser.add_argument("--from", dest="old", nargs=2, required=True)
     parser.add_argument("--to", dest="new", nargs=2, required=True)
     parser.add_argument("--program")
-    return Options(**vars(parser.parse_args(words)))
+    return RepartitionOptions(**vars(parser.parse_args(words)))
 
 
 class Touched(NamedTuple):

@@ -7,7 +7,7 @@ from dataclasses import dataclass
 from typing import Optional
 
 from issuer_host.configuration import members as rules_of
-from issuer_host.configuration.faults import Checked
+from issuer_host.configuration.faults import CheckedConfiguration
 from issuer_host.configuration.json_text import Members, Node
 from issuer_host.configuration.members import AES_PAIR, CARDS, CONFIDENTIALITY, KEYS, KNOWN, TABLE
 from issuer_host.configuration.weak_keys import weaknesses, with_odd_parity
@@ -27,7 +27,7 @@ class Caution:
     says: str
 
 
-def cautions_of(checked: Checked) -> list[Caution]:
+def cautions_of(checked: CheckedConfiguration) -> list[Caution]:
     """Finds the cautions of a configuration, in the order of its members."""
     if checked.root is None:
         return []
@@ -40,7 +40,7 @@ def cautions_of(checked: Checked) -> list[Caution]:
     ]
 
 
-def rows_of(checked: Checked, name: str) -> list[tuple[int, Node]]:
+def rows_of(checked: CheckedConfiguration, name: str) -> list[tuple[int, Node]]:
     """Returns the elements of a list that break no rule, each with its index."""
     return checked.lists[name].sound if name in checked.lists else []
 

@@ -6,7 +6,7 @@ from dataclasses import dataclass
 from typing import Optional
 
 from issuer_host.configuration import members as rules_of
-from issuer_host.configuration.json_text import Lines, Members, Node, NotJson, decoded, read_json
+from issuer_host.configuration.json_text import LineStarts, Members, Node, NotJson, decoded, read_json
 from issuer_host.configuration.members import CARD, CARDS, FITS_ALL, KEYS, Part, ROW, Rule, SHARDS, SHARD_RULE, TABLE
 from issuer_host.facts.limits import MAX_CONFIGURATION_BYTES
 from issuer_host.facts.masks import masked
@@ -33,38 +33,38 @@ class Elements:
 
 
 @dataclass(frozen=True)
-class Checked:
+class CheckedConfiguration:
     """What was read of a configuration: its root if it is JSON, the faults, and the elements without any."""
 
     root: Optional[Node]
-    lines: Lines
+    lines: LineStarts
     faults: list[Fault]
     lists: dict[str, Elements]
 
 
-def check_configuration(data: bytes) -> Checked:
+def check_configuration(data: bytes) -> CheckedConfiguration:
     """Finds the faults of a configuration's bytes. The first one is that which the host names."""
     text = data.decode(errors="replace")
-    lines = Lines(text)
+    lines = LineStarts(text)
     if len(data) > MAX_CONFIGURATION_BYTES:
         says = f"the configuration has {len(data):,} bytes; at most {MAX_CONFIGURATION_BYTES:,} are read"
-        return Checked(None, lines, [Fault(WHOLE, 0, 0, says)], {})
+        return CheckedConfiguration(None, lines, [Fault(WHOLE, 0, 0, says)], {})
     try:
         root = read_json(decoded(data))
     except NotJson as fault:
-        return Checked(None, lines, [Fault(WHOLE, 0, fault.offset, str(fault))], {})
+        return CheckedConfiguration(None, lines, [Fault(WHOLE, 0, fault.offset, str(fault))], {})
     if not isinstance(root.value, Members):
         says = f"the configuration is {rules_of.kind_of(root.value)}, and has to be one object"
-        return Checked(None, lines, [Fault(WHOLE, 0, root.offset, says)], {})
+        return CheckedConfiguration(None, lines, [Fault(WHOLE, 0, root.offset, says)], {})
     checker = Checker(root, root.value, lines)
     faults = [*checker.in_shards(), *checker.in_keys(), *checker.in_cards(), *checker.in_table()]
-    return Checked(root, lines, faults, checker.lists)
+    return CheckedConfiguration(root, lines, faults, checker.lists)
 
 
 class Checker:
     """Walks over the members of a configuration, and remembers the elements that break no rule."""
 
-    def __init__(self, root: Node, members: Members, lines: Lines) -> None:
+    def __init__(self, root: Node, members: Members, lines: LineStarts) -> None:
         self.root = root
         self.members = members
         self.lines = lines

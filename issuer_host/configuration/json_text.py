@@ -69,7 +69,7 @@ class Members:
 Value = Union[None, bool, int, OtherNumber, str, "list[Node]", Members]
 
 
-class Lines:
+class LineStarts:
     """Where the lines of a text begin."""
 
     def __init__(self, text: str) -> None:

@@ -9,7 +9,7 @@ DECISIONS = (FRESH, KEPT)
 RECORDED = (FRESH, KEPT, QUEUED, SET)
 
 
-class Refusal(IntEnum):
+class RefusalNumber(IntEnum):
     """Why a line was refused, by the number after the word `refused`."""
 
     BAD_LINE = 1
@@ -32,9 +32,9 @@ class Refusal(IntEnum):
 
 
 # The refusals that `serve` answers with.
-REFUSALS = tuple(refusal for refusal in Refusal if refusal is not Refusal.WRONG_KIND)
+REFUSALS = tuple(refusal for refusal in RefusalNumber if refusal is not RefusalNumber.WRONG_KIND)
 # Nothing was recorded, and the same line gets an answer by the history a moment later.
-HELD = (Refusal.PENDING, Refusal.STORE_FAULT)
+HELD = (RefusalNumber.PENDING, RefusalNumber.STORE_FAULT)
 HELD_NUMBERS = frozenset(str(int(refusal)) for refusal in HELD)
 
 

@@ -124,7 +124,7 @@ class Seals:
         self.count = count
 
 
-class Checked(NamedTuple):
+class CheckedJournal(NamedTuple):
     """What a check of a journal found: its records, and the bytes of a torn last line."""
 
     records: int
@@ -146,7 +146,7 @@ class Left(NamedTuple):
 NOTHING = Left(0, 0, True)
 
 
-def check_sealed(journal: str, before: Optional[Left] = None, accepts: bool = False) -> Checked:
+def check_sealed(journal: str, before: Optional[Left] = None, accepts: bool = False) -> CheckedJournal:
     """Refuses a journal that isn't what its seals and the mark say, and seals the records that have no seal yet.
 
     `before` is what the last run left or found, if that is known. A journal that is accepted as it is loses the seals
@@ -170,7 +170,7 @@ def check_sealed(journal: str, before: Optional[Left] = None, accepts: bool = Fa
         if has_records:
             check_grown(reading, before, seals)
             append_missing(reading, seals)
-        return Checked(seals.count, len(torn))
+        return CheckedJournal(seals.count, len(torn))
 
 
 def check_shorter(journal: str, size: int, before: Optional[Left]) -> None:

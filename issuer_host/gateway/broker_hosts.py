@@ -12,10 +12,10 @@ import time
 from collections.abc import Callable
 from typing import Optional
 
-from issuer_host.broker.publisher import Asker, Question as Published
+from issuer_host.broker.publisher import Asker, PublishedRequest as Published
 from issuer_host.broker.types import Channel, Delivery, Properties
 from issuer_host.facts.answers import kind_of
-from issuer_host.gateway.figures import Figures
+from issuer_host.gateway.figures import GatewayFigures
 from issuer_host.gateway.log import Limited, tell
 from issuer_host.gateway.traffic import Question, Traffic
 from issuer_host.host.retry_policy import RetryPolicy
@@ -26,7 +26,7 @@ END_SECONDS = 2.0
 class LiveAsker(Asker):
     """An asker that gets lines at any time, and gives each answer to `on_answer`. All its calls are its thread's."""
 
-    def __init__(self, partitions: int, broker_file: str, connection: "Connection") -> None:
+    def __init__(self, partitions: int, broker_file: str, connection: "BrokerConnection") -> None:
         super().__init__(partitions, broker_file, seconds=math.inf)
         self.connection = connection
         self.limited = Limited()
@@ -70,11 +70,16 @@ class LiveAsker(Asker):
         self.limited.tell(str(fault))
 
 
-class Connection:
+class BrokerConnection:
     """The thread with its asker, and what it shares with the gateway's loop."""
 
     def __init__(
-        self, loop: asyncio.AbstractEventLoop, partitions: int, broker_file: str, traffic: Traffic, figures: Figures
+        self,
+        loop: asyncio.AbstractEventLoop,
+        partitions: int,
+        broker_file: str,
+        traffic: Traffic,
+        figures: GatewayFigures,
     ) -> None:
         self.loop, self.traffic, self.figures = loop, traffic, figures
         # Whether the disks of the bridges take records, by their answers.
@@ -155,7 +160,7 @@ class BrokeredHost:
 
     refusal: Optional[int] = None
 
-    def __init__(self, connection: Connection, partition: int) -> None:
+    def __init__(self, connection: BrokerConnection, partition: int) -> None:
         self.connection, self.partition = connection, partition
         self.tried, self.ended = connection.tried, connection.ended
 
@@ -184,8 +189,8 @@ class BrokeredHost:
 
 
 def brokered_hosts(
-    loop: asyncio.AbstractEventLoop, partitions: int, broker_file: str, traffic: Traffic, figures: Figures
+    loop: asyncio.AbstractEventLoop, partitions: int, broker_file: str, traffic: Traffic, figures: GatewayFigures
 ) -> list[BrokeredHost]:
     """A host for each partition, all by one connection."""
-    connection = Connection(loop, partitions, broker_file, traffic, figures)
+    connection = BrokerConnection(loop, partitions, broker_file, traffic, figures)
     return [BrokeredHost(connection, number) for number in range(partitions)]

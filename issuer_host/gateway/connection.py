@@ -8,7 +8,7 @@ from typing import Optional, Protocol, cast
 from issuer_host.facts import answers
 from issuer_host.facts.masks import masked
 from issuer_host.gateway import mapping, requests, responses
-from issuer_host.gateway.figures import Figures
+from issuer_host.gateway.figures import GatewayFigures
 from issuer_host.gateway.frames import BadFrame, FrameBuffer, KEEP_ALIVES_A_SECOND, KeepAlives, frame_of
 from issuer_host.gateway.log import Limited
 from issuer_host.gateway.message import Codec, Message, Unreadable, Unwritable
@@ -18,7 +18,7 @@ from issuer_host.gateway.requests import RequestLine
 WRITE_BYTES = 1 << 16
 
 
-class Limits(Protocol):
+class ConnectionLimits(Protocol):
     """What bounds a connection."""
 
     frame: int
@@ -27,11 +27,11 @@ class Limits(Protocol):
     idle_seconds: float
 
 
-class Owner(Protocol):
+class ConnectionOwner(Protocol):
     """The gateway, as a connection sees it."""
 
-    limits: Limits
-    figures: Figures
+    limits: ConnectionLimits
+    figures: GatewayFigures
     is_stopping: bool
     limited: Limited
 
@@ -51,7 +51,7 @@ class Owner(Protocol):
 class Connection(asyncio.BufferedProtocol):
     """A connection in a dialect."""
 
-    def __init__(self, owner: Owner, codec: Codec, loop: asyncio.AbstractEventLoop) -> None:
+    def __init__(self, owner: ConnectionOwner, codec: Codec, loop: asyncio.AbstractEventLoop) -> None:
         self.owner, self.codec, self.dialect, self.loop = owner, codec, codec.dialect, loop
         self.buffer, self.keep_alives = FrameBuffer(self.dialect, owner.limits.frame), KeepAlives()
         self.transport: Optional[asyncio.Transport] = None
@@ -175,19 +175,13 @@ class Connection(asyncio.BufferedProtocol):
             if answer is None:
                 self.respond(responses.settled(self.dialect, message, mapping.NO_DECISION), began)
             else:
-                self.flag(answer, pan)
+                flag(self.owner.limited, answer, pan)
                 self.respond(responses.answered(self.dialect, message, answer), began)
             self.go_on()
 
         self.in_flight += 1
         self.owner.figures.in_flight += 1
         self.owner.ask(line, self, began, answered)
-
-    def flag(self, answer: str, pan: str) -> None:
-        """Tells of an answer for which somebody has to look at the card, or at the configuration."""
-        kind = answers.kind_of(answer)
-        if kind.word == answers.REFUSED and mapping.refusal_of(kind.refusal) in mapping.FLAGGED:
-            self.owner.limited.tell(f"refused {kind.refusal}: card {masked(pan)}")
 
     def go_on(self) -> None:
         if self.is_closing:
@@ -252,3 +246,10 @@ class Connection(asyncio.BufferedProtocol):
             self.close_after_answers("a torn frame")
         elif limits.idle_seconds and now - self.heard > limits.idle_seconds:
             self.close_after_answers("idle")
+
+
+def flag(log: Limited, answer: str, pan: str) -> None:
+    """Reports an answer for which somebody has to look at the card, or at the configuration."""
+    kind = answers.kind_of(answer)
+    if kind.word == answers.REFUSED and mapping.refusal_of(kind.refusal) in mapping.FLAGGED:
+        log.tell(f"refused {kind.refusal}: card {masked(pan)}")

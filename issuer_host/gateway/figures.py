@@ -55,7 +55,7 @@ Labels = tuple[tuple[str, str], ...]
 Number = Union[int, float]
 
 
-class Figures:
+class GatewayFigures:
     """Counts since the start, and what is measured when somebody asks."""
 
     def __init__(self, partitions: int, has_hosts: bool = True) -> None:
@@ -155,7 +155,7 @@ def disk_of(journal: str) -> Optional[Disk]:
 class PartitionFigures:
     """What a partition's host and its work come to, in the figures of the gateway."""
 
-    def __init__(self, figures: Figures, partition: int, journal: str) -> None:
+    def __init__(self, figures: GatewayFigures, partition: int, journal: str) -> None:
         self.figures, self.partition, self.journal = figures, partition, journal
         self.name = ("partition", str(partition))
 

@@ -8,7 +8,7 @@ import concurrent.futures
 from collections.abc import Callable, Sequence
 from typing import Optional
 
-from issuer_host.gateway.figures import Disk, Figures, disk_of
+from issuer_host.gateway.figures import Disk, GatewayFigures, disk_of
 
 # For so long the thread waits for the gateway's loop.
 LOOP_SECONDS = 5.0
@@ -20,7 +20,7 @@ class FiguresPage:
     def __init__(
         self,
         loop: asyncio.AbstractEventLoop,
-        figures: Figures,
+        figures: GatewayFigures,
         journals: Sequence[str],
         measured: Callable[[str], Optional[Disk]] = disk_of,
     ) -> None:

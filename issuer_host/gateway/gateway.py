@@ -13,7 +13,7 @@ from issuer_host.facts.statuses import Status
 from issuer_host.gateway import admission
 from issuer_host.gateway.admission import Admission, PortLimits
 from issuer_host.gateway.connection import Connection
-from issuer_host.gateway.figures import Figures
+from issuer_host.gateway.figures import GatewayFigures
 from issuer_host.gateway.figures_page import FiguresPage
 from issuer_host.gateway.log import Limited, NAME, tell
 from issuer_host.gateway.message import Codec
@@ -21,7 +21,7 @@ from issuer_host.gateway.order_router import OrderRouter
 from issuer_host.gateway.port import Port
 from issuer_host.gateway.requests import RequestLine
 from issuer_host.gateway.shares import shares_of
-from issuer_host.gateway.traffic import Host, Traffic
+from issuer_host.gateway.traffic import TrafficHost, Traffic
 from issuer_host.telling import service_manager
 from issuer_host.telling.figures_server import FiguresServer
 
@@ -65,7 +65,7 @@ class Listener:
     codec: Codec
 
 
-class Partition(Host, Protocol):
+class Partition(TrafficHost, Protocol):
     """A host that the gateway starts and ends."""
 
     tried: "asyncio.Future[None]"
@@ -100,7 +100,7 @@ class Gateway:
         """`is_ordered`: whether the hosts keep the order of a card's lines; `has_hosts`: whether they are its own."""
         self.loop, self.limits = loop, bounds
         raise_file_limit(bounds)
-        self.figures, self.limited = Figures(partitions, has_hosts), Limited()
+        self.figures, self.limited = GatewayFigures(partitions, has_hosts), Limited()
         self.figures.measure = self.measure
         self.traffic = Traffic(loop, bounds.seconds, is_ordered, self.figures)
         self.hosts: list[Partition] = []

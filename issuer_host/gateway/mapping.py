@@ -5,7 +5,7 @@
 
 from typing import NamedTuple, Optional
 
-from issuer_host.facts.answers import Refusal
+from issuer_host.facts.answers import RefusalNumber
 
 EDITIONS = ("1987", "1993")
 
@@ -65,24 +65,24 @@ UNSUPPORTED = outcome("40", "115")
 NO_DECISION = outcome("91", "907")
 MALFUNCTION = outcome("96", "909")
 
-REFUSALS: dict[Refusal, Outcome] = {
-    Refusal.BAD_LINE: MALFUNCTION,
-    Refusal.BAD_TLV: BAD_FORMAT,
-    Refusal.MISSING: BAD_FORMAT,
-    Refusal.BAD_FIELD: BAD_FORMAT,
-    Refusal.REPEATED: BAD_FORMAT,
-    Refusal.UNKNOWN_CARD: outcome("14", "111"),
-    Refusal.NOT_ARQC: outcome("12", "902"),
-    Refusal.UNKNOWN_KEY: MALFUNCTION,
-    Refusal.BAD_CRYPTOGRAM: outcome("05", "100"),
-    Refusal.BELOW_WINDOW: outcome("05", "100"),
-    Refusal.TAKEN: outcome("05", "100"),
+REFUSALS: dict[RefusalNumber, Outcome] = {
+    RefusalNumber.BAD_LINE: MALFUNCTION,
+    RefusalNumber.BAD_TLV: BAD_FORMAT,
+    RefusalNumber.MISSING: BAD_FORMAT,
+    RefusalNumber.BAD_FIELD: BAD_FORMAT,
+    RefusalNumber.REPEATED: BAD_FORMAT,
+    RefusalNumber.UNKNOWN_CARD: outcome("14", "111"),
+    RefusalNumber.NOT_ARQC: outcome("12", "902"),
+    RefusalNumber.UNKNOWN_KEY: MALFUNCTION,
+    RefusalNumber.BAD_CRYPTOGRAM: outcome("05", "100"),
+    RefusalNumber.BELOW_WINDOW: outcome("05", "100"),
+    RefusalNumber.TAKEN: outcome("05", "100"),
     # (only if it outlasts the time limit)
-    Refusal.PENDING: NO_DECISION,
-    Refusal.STORE_FAULT: NO_DECISION,
+    RefusalNumber.PENDING: NO_DECISION,
+    RefusalNumber.STORE_FAULT: NO_DECISION,
 }
 # These three are written to the log, the card's PAN masked: somebody has to look at the card.
-FLAGGED = (Refusal.BAD_CRYPTOGRAM, Refusal.BELOW_WINDOW, Refusal.TAKEN)
+FLAGGED = (RefusalNumber.BAD_CRYPTOGRAM, RefusalNumber.BELOW_WINDOW, RefusalNumber.TAKEN)
 
 # The action codes of 1993 for response codes of the host's table; in 1987 element 39 is the response code itself.
 ACTION_CODES = {
@@ -173,9 +173,9 @@ def response_type(kind: str) -> str:
     return f"{kind[:2]}{function}{int(origin) - int(origin) % 2}"
 
 
-def refusal_of(text: str) -> Optional[Refusal]:
+def refusal_of(text: str) -> Optional[RefusalNumber]:
     """The refusal of this number, or None."""
     try:
-        return Refusal(int(text))
+        return RefusalNumber(int(text))
     except ValueError:
         return None

@@ -53,7 +53,7 @@ class Unwritable(Exception):
     """A message that the dialect can't express, and why."""
 
 
-class Torn(Exception):
+class TornElement(Exception):
     """An element that isn't whole, or isn't of its format, and why."""
 
 
@@ -82,7 +82,7 @@ class Codec:
                 said = f"its type is {kind!r}, which isn't of {self.dialect.edition}"
                 raise Unreadable(said, is_of_other_edition=kind[0] in VERSIONS)
             numbers, at = read_bitmaps(self.dialect, data, at)
-        except Torn as why:
+        except TornElement as why:
             raise Unreadable(str(why)) from why
         message = Message(kind)
         if BITMAP_ELEMENTS[1] in numbers:
@@ -91,9 +91,9 @@ class Codec:
             reader = self.readers.get(number)
             try:
                 if reader is None:
-                    raise Torn("the dialect has no such element")
+                    raise TornElement("the dialect has no such element")
                 message.elements[number], end = reader(data, at)
-            except Torn as why:
+            except TornElement as why:
                 raise Unreadable(f"element {number}: {why}", message) from why
             if number in self.echoed:
                 message.written[number] = data[at:end]
@@ -121,9 +121,9 @@ class Codec:
         form = self.dialect.formats.get(number)
         try:
             if form is None:
-                raise Torn("the dialect has no such element")
+                raise TornElement("the dialect has no such element")
             return write_element(self.dialect, form, value)
-        except Torn as why:
+        except TornElement as why:
             raise Unwritable(f"element {number}: {why}") from why
 
 
@@ -133,7 +133,7 @@ class Codec:
 def take(data: bytes, at: int, size: int) -> bytes:
     piece = data[at : at + size]
     if len(piece) != size:
-        raise Torn("it isn't whole")
+        raise TornElement("it isn't whole")
     return piece
 
 
@@ -192,10 +192,10 @@ def length_reader_of(dialect: Dialect, form: Format) -> LengthReader:
         size = count_of(take(data, at, width))
         if is_doubled:
             if size % 2:
-                raise Torn("its length is odd")
+                raise TornElement("its length is odd")
             size //= 2
         if size > form.size:
-            raise Torn(f"its length is {size}, and {form.size} at most")
+            raise TornElement(f"its length is {size}, and {form.size} at most")
         return size, at + width
 
     return read
@@ -203,7 +203,7 @@ def length_reader_of(dialect: Dialect, form: Format) -> LengthReader:
 
 def decimal_of(piece: bytes) -> int:
     if piece.translate(None, DIGITS):
-        raise Torn("its length isn't decimal")
+        raise TornElement("its length isn't decimal")
     return int(piece)
 
 
@@ -230,14 +230,14 @@ def read_hexadecimal(data: bytes, at: int, size: int) -> tuple[Value, int]:
 
 def from_hexadecimal(piece: bytes) -> bytes:
     if piece.translate(None, HEXADECIMAL):
-        raise Torn("it isn't hexadecimal")
+        raise TornElement("it isn't hexadecimal")
     return bytes.fromhex(piece.decode())
 
 
 def read_digits(data: bytes, at: int, size: int) -> tuple[Value, int]:
     piece = take(data, at, size)
     if piece.translate(None, DIGITS):
-        raise Torn("it isn't decimal")
+        raise TornElement("it isn't decimal")
     return piece.decode(), at + size
 
 
@@ -245,7 +245,7 @@ def packed_digits_reader(dialect: Dialect) -> SizedReader:
     def read(data: bytes, at: int, size: int) -> tuple[Value, int]:
         text, at = read_packed(dialect, data, at, size)
         if text and not text.isdecimal():
-            raise Torn("it isn't decimal")
+            raise TornElement("it isn't decimal")
         return text, at
 
     return read
@@ -257,7 +257,7 @@ def read_packed(dialect: Dialect, data: bytes, at: int, size: int) -> tuple[str,
     text = take(data, at, width).hex()
     if size % 2:
         if text[-1 if dialect.pads_after else 0] != ("f" if dialect.pads_after else "0"):
-            raise Torn("it isn't padded as the dialect says")
+            raise TornElement("it isn't padded as the dialect says")
         text = text[:-1] if dialect.pads_after else text[1:]
     return text, at + width
 
@@ -270,7 +270,7 @@ def track_reader(dialect: Dialect) -> SizedReader:
             text, end = take(data, at, size).decode("latin-1"), at + size
         text = text.upper()
         if text.encode("latin-1", errors="replace").translate(None, CHARACTERS["z"]):
-            raise Torn("it has a character that isn't of kind z")
+            raise TornElement("it has a character that isn't of kind z")
         return text.replace("D", SEPARATOR), end
 
     return read
@@ -282,7 +282,7 @@ def amount_reader(dialect: Dialect) -> SizedReader:
     def read(data: bytes, at: int, size: int) -> tuple[Value, int]:
         sign = take(data, at, 1)
         if sign not in SIGNS:
-            raise Torn("its sign isn't C or D")
+            raise TornElement("its sign isn't C or D")
         number, end = read_number(data, at + 1, size - 1)
         return f"{sign.decode()}{number!s}", end
 
@@ -295,7 +295,7 @@ def text_reader(kind: str) -> SizedReader:
     def read(data: bytes, at: int, size: int) -> tuple[Value, int]:
         piece = take(data, at, size)
         if piece.translate(None, allowed):
-            raise Torn(f"it has a character that isn't of kind {kind}")
+            raise TornElement(f"it has a character that isn't of kind {kind}")
         return piece.decode("latin-1"), at + size
 
     return read
@@ -306,9 +306,11 @@ def text_reader(kind: str) -> SizedReader:
 
 def write_element(dialect: Dialect, form: Format, value: Value) -> bytes:
     if isinstance(value, bytes) != (form.kind == "b"):
-        raise Torn("it is a text, and has to be bytes" if form.kind == "b" else "it is bytes, and has to be a text")
+        raise TornElement(
+            "it is a text, and has to be bytes" if form.kind == "b" else "it is bytes, and has to be a text"
+        )
     if len(value) > form.size or not form.length_digits and len(value) != form.size:
-        raise Torn(f"its length is {len(value)}")
+        raise TornElement(f"its length is {len(value)}")
     if isinstance(value, bytes):
         written = value if dialect.has_raw_binary else value.hex().upper().encode()
         length = len(written) if counts_hexadecimal(dialect) else len(value)
@@ -329,11 +331,11 @@ def write_length(dialect: Dialect, form: Format, length: int) -> bytes:
 def write_text(dialect: Dialect, form: Format, value: str) -> bytes:
     if form.kind == "x":
         if value[:1].encode() not in SIGNS:
-            raise Torn("its sign isn't C or D")
+            raise TornElement("its sign isn't C or D")
         return value[:1].encode() + write_digits(dialect, value[1:])
     written = value.encode("latin-1", errors="replace")
     if written.translate(None, CHARACTERS[form.kind]):
-        raise Torn(f"it has a character that isn't of kind {form.kind}")
+        raise TornElement(f"it has a character that isn't of kind {form.kind}")
     if form.kind == "n" or form.kind == "z" and dialect.is_packed:
         return write_digits(dialect, value.replace(SEPARATOR, "D"))
     return written

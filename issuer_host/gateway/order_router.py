@@ -11,7 +11,7 @@ from issuer_host.orders.order import Order
 from issuer_host.orders.server import OrderSocket
 
 
-class Ordered(Protocol):
+class RoutedOrder(Protocol):
     """A partition that takes orders."""
 
     def has_host(self) -> bool:
@@ -24,7 +24,7 @@ class Ordered(Protocol):
 class OrderRouter:
     """Orders of all partitions at one socket."""
 
-    def __init__(self, loop: asyncio.AbstractEventLoop, path: str, partitions: Sequence[Ordered]) -> None:
+    def __init__(self, loop: asyncio.AbstractEventLoop, path: str, partitions: Sequence[RoutedOrder]) -> None:
         self.partitions = partitions
         self.socket = OrderSocket(AsyncioLoop(loop), path, self.has_host, self.order, NAME)
 

@@ -42,7 +42,7 @@ class PipeHost:
         self.serving.put(question)
 
     def withdraw(self, question: Question) -> None:
-        if self.serving.hosting.withdraw(question):
+        if self.serving.hosting.lines.withdraw(question):
             self.traffic.forgotten(question)
 
     # What the host's work comes to
@@ -98,7 +98,7 @@ class PipeHost:
     # What the gateway calls
 
     def start(self) -> None:
-        self.serving.begin()
+        self.serving.orders.open()
         self.serving.hosting.want()
 
     def look(self) -> None:

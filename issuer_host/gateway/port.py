@@ -15,7 +15,7 @@ from typing import Optional, cast
 from issuer_host.gateway import admission
 from issuer_host.gateway.admission import Admission, Arrival, Stage
 from issuer_host.gateway.connection import Connection
-from issuer_host.gateway.figures import Figures
+from issuer_host.gateway.figures import GatewayFigures
 from issuer_host.gateway.log import Limited
 
 BACKLOG = 1024
@@ -49,7 +49,7 @@ class Port:
         loop: asyncio.AbstractEventLoop,
         held: Admission,
         context: Optional[ssl.SSLContext],
-        figures: Figures,
+        figures: GatewayFigures,
         limited: Limited,
     ) -> None:
         self.loop, self.admission, self.context = loop, held, context

@@ -14,7 +14,7 @@ from typing import Optional, Protocol
 
 from issuer_host.facts import answers
 from issuer_host.facts.partitions import partition_of
-from issuer_host.gateway.figures import Figures
+from issuer_host.gateway.figures import GatewayFigures
 from issuer_host.gateway.requests import RequestLine
 from issuer_host.gateway.shares import PartitionLoad, Shares
 from issuer_host.host.lines import Entry
@@ -40,7 +40,7 @@ class Question(Entry):
         self.then = then
 
 
-class Host(Protocol):
+class TrafficHost(Protocol):
     """Where a partition's lines go. It calls `answered` or `forgotten` of the traffic once for each that it takes."""
 
     def takes(self, question: Question) -> bool:
@@ -56,10 +56,12 @@ class Host(Protocol):
 class Traffic:
     """All lines in flight."""
 
-    def __init__(self, loop: asyncio.AbstractEventLoop, seconds: float, is_ordered: bool, figures: Figures) -> None:
+    def __init__(
+        self, loop: asyncio.AbstractEventLoop, seconds: float, is_ordered: bool, figures: GatewayFigures
+    ) -> None:
         """`is_ordered`: whether the hosts keep the order of a card's lines by themselves."""
         self.loop, self.seconds, self.is_ordered, self.figures = loop, seconds, is_ordered, figures
-        self.hosts: Sequence[Host] = ()
+        self.hosts: Sequence[TrafficHost] = ()
         self.loads: list[PartitionLoad] = []
         self.shares, self.has_others = Shares(), False
         self.number = 0
@@ -69,7 +71,7 @@ class Traffic:
         # Of each card the line at the host, and those that wait for it.
         self.cards: dict[str, dict[int, Question]] = {}
 
-    def begin(self, hosts: Sequence[Host], shares: Shares) -> None:
+    def begin(self, hosts: Sequence[TrafficHost], shares: Shares) -> None:
         """The hosts of all partitions, and how many lines of one may be in flight that gives no answer."""
         self.hosts, self.shares = hosts, shares
         self.loads = [PartitionLoad() for _ in hosts]

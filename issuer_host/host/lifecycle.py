@@ -20,7 +20,7 @@ FAILED_LOOKS = 5
 IN_ORDER = (Status.OK, Status.TOO_LONG)
 
 
-class State(Enum):
+class HostState(Enum):
     """What there is of a host."""
 
     # No process: one is started once it is needed.
@@ -56,32 +56,36 @@ class Event(Enum):
     STOP = "stop"
 
 
-TABLE: "dict[State, dict[Event, State]]" = {
-    State.ABSENT: {Event.NEEDED: State.STARTING, Event.STOP: State.STOPPED},
-    State.STARTING: {Event.STARTED: State.LOADING, Event.FAILED: State.WAITING, Event.STOP: State.STOPPED},
-    State.LOADING: {
-        Event.LOADED: State.READY,
-        Event.CLOSE: State.CLOSING,
-        Event.KILL: State.KILLED,
-        Event.ENDED: State.ABSENT,
-        Event.FAILED: State.WAITING,
-        Event.STOP: State.CLOSING,
+TABLE: "dict[HostState, dict[Event, HostState]]" = {
+    HostState.ABSENT: {Event.NEEDED: HostState.STARTING, Event.STOP: HostState.STOPPED},
+    HostState.STARTING: {
+        Event.STARTED: HostState.LOADING,
+        Event.FAILED: HostState.WAITING,
+        Event.STOP: HostState.STOPPED,
     },
-    State.READY: {
-        Event.CLOSE: State.CLOSING,
-        Event.KILL: State.KILLED,
-        Event.ENDED: State.ABSENT,
-        Event.FAILED: State.WAITING,
-        Event.STOP: State.CLOSING,
+    HostState.LOADING: {
+        Event.LOADED: HostState.READY,
+        Event.CLOSE: HostState.CLOSING,
+        Event.KILL: HostState.KILLED,
+        Event.ENDED: HostState.ABSENT,
+        Event.FAILED: HostState.WAITING,
+        Event.STOP: HostState.CLOSING,
     },
-    State.CLOSING: {Event.KILL: State.KILLED, Event.ENDED: State.ABSENT, Event.FAILED: State.WAITING},
-    State.KILLED: {Event.ENDED: State.ABSENT, Event.FAILED: State.WAITING},
-    State.WAITING: {Event.WAITED: State.ABSENT, Event.ENDED: State.ABSENT, Event.STOP: State.STOPPED},
-    State.STOPPED: {},
+    HostState.READY: {
+        Event.CLOSE: HostState.CLOSING,
+        Event.KILL: HostState.KILLED,
+        Event.ENDED: HostState.ABSENT,
+        Event.FAILED: HostState.WAITING,
+        Event.STOP: HostState.CLOSING,
+    },
+    HostState.CLOSING: {Event.KILL: HostState.KILLED, Event.ENDED: HostState.ABSENT, Event.FAILED: HostState.WAITING},
+    HostState.KILLED: {Event.ENDED: HostState.ABSENT, Event.FAILED: HostState.WAITING},
+    HostState.WAITING: {Event.WAITED: HostState.ABSENT, Event.ENDED: HostState.ABSENT, Event.STOP: HostState.STOPPED},
+    HostState.STOPPED: {},
 }
 # In these there is a process, and in these it may still be killed.
-RUNNING = (State.LOADING, State.READY, State.CLOSING, State.KILLED)
-ALIVE = (State.LOADING, State.READY, State.CLOSING)
+RUNNING = (HostState.LOADING, HostState.READY, HostState.CLOSING, HostState.KILLED)
+ALIVE = (HostState.LOADING, HostState.READY, HostState.CLOSING)
 
 
 class Limits(NamedTuple):
@@ -126,7 +130,7 @@ class Lifecycle:
 
     def __init__(self, limits: Limits) -> None:
         self.limits = limits
-        self.state = State.ABSENT
+        self.state = HostState.ABSENT
         self.is_stopping = False
         # When the run was started, when its last answer came, and when its input was closed.
         self.began = self.answered_at = self.closed_at = 0.0
@@ -158,7 +162,7 @@ class Lifecycle:
 
     def close(self, now: float) -> "list[Action]":
         """The run has all its lines."""
-        if self.state in (State.LOADING, State.READY):
+        if self.state in (HostState.LOADING, HostState.READY):
             self.closed_at = now
         return self.enter(Event.CLOSE, Close())
 
@@ -168,7 +172,7 @@ class Lifecycle:
     def stop(self, now: float) -> "list[Action]":
         """No host is started any more, and one that runs answers what it has."""
         self.is_stopping = True
-        if self.state in (State.LOADING, State.READY):
+        if self.state in (HostState.LOADING, HostState.READY):
             self.closed_at = now
             return self.enter(Event.STOP, Close())
         return self.enter(Event.STOP)
@@ -252,7 +256,7 @@ class Lifecycle:
 
     def judge_time(self, now: float) -> "list[Action]":
         """Kills a run that is silent for too long."""
-        if self.state is State.CLOSING:
+        if self.state is HostState.CLOSING:
             if now - max(self.closed_at, self.answered_at) > self.limits.closing:
                 return self.kill("it doesn't end, though its input was closed")
             return []

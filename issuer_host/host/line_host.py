@@ -2,7 +2,6 @@
 from collections.abc import Sequence
 from typing import NamedTuple, Optional, Protocol
 
-from issuer_host.files.card_records import CardRecords
 from issuer_host.host.event_loop import Action, Loop
 from issuer_host.host.line_queue import LineQueue
 from issuer_host.host.lines import Entry, Line
@@ -90,10 +89,6 @@ class LineHost:
         self.reader = RecordsReader(loop, settings.journal, settings.name, self.records_read)
         self.is_loaded = self.is_flushing = False
 
-    @property
-    def records(self) -> CardRecords:
-        return self.reader.records
-
     # Lines
 
     def add(self, entry: Entry) -> None:
@@ -126,14 +121,6 @@ class LineHost:
         self.lines.give(line)
         self.supervisor.put(line.line)
         self.supervisor.flush()
-
-    def withdraw(self, entry: Entry) -> bool:
-        """Forgets a request that the host hasn't got. Returns whether it hadn't."""
-        return self.lines.withdraw(entry)
-
-    def entries(self) -> list[Entry]:
-        """The requests that the host has or gets next."""
-        return self.lines.entries()
 
     # The host
 

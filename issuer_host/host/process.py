@@ -23,7 +23,7 @@ LAST_BYTE = RUN_BYTES - (1 << 24)
 END_SECONDS = 1
 
 
-class Host:
+class HostProcess:
     """A started program. `on_answer` gets each answer line, `on_end` the status and the last line `stop ..` or none."""
 
     def __init__(

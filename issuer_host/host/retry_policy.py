@@ -5,11 +5,11 @@ This is the one place of these times, for bridges, nodes, the gateway, orders, d
 import time
 from typing import Optional
 
-from issuer_host.facts.answers import FRESH, HELD_NUMBERS, Kind, QUEUED, REFUSED, Refusal, SET, kind_of
+from issuer_host.facts.answers import FRESH, HELD_NUMBERS, Kind, QUEUED, REFUSED, RefusalNumber, SET, kind_of
 
 # How long a line is held before it is put again, by the refusal's number.
-FULL = str(int(Refusal.STORE_FAULT))
-HOLD_SECONDS = {str(int(Refusal.PENDING)): 0.02, FULL: 0.5}
+FULL = str(int(RefusalNumber.STORE_FAULT))
+HOLD_SECONDS = {str(int(RefusalNumber.PENDING)): 0.02, FULL: 0.5}
 # A line that came so long ago isn't held any more: whoever sent it asks again. While the journals take no record for so
 # long, no line is: each gets its refusal at once, so that those behind it are answered.
 LIMIT_SECONDS = 2.0

@@ -14,8 +14,8 @@ from issuer_host.facts.statuses import meaning_of
 from issuer_host.files.open_journals import Look, OpenJournals
 from issuer_host.files.seal_writer import Sealing
 from issuer_host.host.event_loop import Loop
-from issuer_host.host.lifecycle import Action, Close, GiveUp, Kill, Lifecycle, Limits, Start, State, Wait
-from issuer_host.host.process import Host
+from issuer_host.host.lifecycle import Action, Close, GiveUp, Kill, Lifecycle, Limits, Start, HostState, Wait
+from issuer_host.host.process import HostProcess
 
 # A host that has answered before and is silent so long is killed, and so is one that is being closed.
 SILENT_SECONDS = 10.0
@@ -27,7 +27,7 @@ PROBE, PROBE_ANSWER = b"x", "refused 1 1"
 LOOK_SECONDS = 1.0
 
 
-class Owner(Protocol):
+class HostOwner(Protocol):
     """Who has the lines of a host."""
 
     def started(self) -> None:
@@ -49,12 +49,12 @@ class Owner(Protocol):
 class Supervisor:
     """A partition's host, one run after another."""
 
-    def __init__(self, loop: Loop, command: Sequence[str], journal: str, owner: Owner, name: str) -> None:
+    def __init__(self, loop: Loop, command: Sequence[str], journal: str, owner: HostOwner, name: str) -> None:
         self.loop, self.command, self.journal, self.owner = loop, command, journal, owner
         # Who tells of it.
         self.name = name
         self.lifecycle = Lifecycle(limits_of(journal))
-        self.run: Optional[Host] = None
+        self.run: Optional[HostProcess] = None
         # Lines of this run that have no answer, the probe included.
         self.owed = 0
         # The journals that the first run loaded: no run of this process goes on over other files.
@@ -70,7 +70,7 @@ class Supervisor:
     @property
     def takes_lines(self) -> bool:
         """Whether a host has loaded its journals and takes lines."""
-        return self.run is not None and self.run.is_open and self.lifecycle.state is State.READY
+        return self.run is not None and self.run.is_open and self.lifecycle.state is HostState.READY
 
     @property
     def is_full(self) -> bool:
@@ -143,7 +143,7 @@ class Supervisor:
             self.act(self.lifecycle.was_replaced())
             return
         try:
-            self.run = Host(self.loop, self.command, self.answered, self.ended)
+            self.run = HostProcess(self.loop, self.command, self.answered, self.ended)
         except OSError as fault:
             tell(self.name, f"no host can be started: {fault.strerror}")
             self.act(self.lifecycle.could_not_start())
@@ -213,10 +213,10 @@ class Supervisor:
 
     # Time
 
-    def look_later(self, run: Host) -> None:
+    def look_later(self, run: HostProcess) -> None:
         self.loop.call_later(LOOK_SECONDS, lambda: self.look(run))
 
-    def look(self, run: Host) -> None:
+    def look(self, run: HostProcess) -> None:
         """A look at the run each second."""
         if run is not self.run:
             return

@@ -4,7 +4,7 @@ from collections.abc import Sequence
 from typing import NamedTuple, Optional
 
 
-class Options(NamedTuple):
+class OrderOptions(NamedTuple):
     """The words of the command."""
 
     socket: list[str]
@@ -16,7 +16,7 @@ class Options(NamedTuple):
     program: Optional[str]
 
 
-def options_of(words: Sequence[str], usage: Optional[str]) -> Options:
+def options_of(words: Sequence[str], usage: Optional[str]) -> OrderOptions:
     parser = argparse.ArgumentParser(usage=usage)
     parser.add_argument("--socket", nargs="+", default=[])
     parser.add_argument("--number")
@@ -25,7 +25,7 @@ def options_of(words: Sequence[str], usage: Optional[str]) -> Options:
     parser.add_argument("--service", nargs="+", default=[])
     parser.add_argument("--queued", type=int)
     parser.add_argument("--program")
-    options = Options(**vars(parser.parse_args(words)))
+    options = OrderOptions(**vars(parser.parse_args(words)))
     if bool(options.socket) == bool(options.config and options.journal):
         parser.error("either --socket, or --config and --journal")
     if options.number is not None and not options.socket:

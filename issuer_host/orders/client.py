@@ -10,7 +10,7 @@ SECONDS = 300.0
 PIECE = 4096
 
 
-class Connection:
+class OrderConnection:
     """A connection to a socket of orders."""
 
     def __init__(self, path: str) -> None:
@@ -34,15 +34,15 @@ class Connection:
         return reply.decode("latin-1")
 
 
-def connected(path: str) -> "Connection | None":
+def connected(path: str) -> "OrderConnection | None":
     """Returns a connection, or None if nobody listens there."""
     try:
-        return Connection(path)
+        return OrderConnection(path)
     except OSError:
         return None
 
 
-def takers_of(paths: list[str]) -> list[Connection]:
+def takers_of(paths: list[str]) -> list[OrderConnection]:
     """Returns the connections to those that listen, the one that serves first."""
     found = [taker for taker in map(connected, paths) if taker is not None]
     if not found:
@@ -72,7 +72,7 @@ def order(paths: list[str], number: str, lines: list[str]) -> None:
         tell("order", f"{some} done before, by the same number")
 
 
-def reply_of(takers: list[Connection], number: str, line: str) -> str:
+def reply_of(takers: list[OrderConnection], number: str, line: str) -> str:
     """Returns what became of a line: by the first one, or by the next one if that has no journals."""
     reply = ""
     for taker in takers:

@@ -9,7 +9,7 @@ import os
 import re
 from typing import NamedTuple, Optional, Protocol
 
-from issuer_host.facts.answers import REFUSED, Refusal, SET, kind_of
+from issuer_host.facts.answers import REFUSED, RefusalNumber, SET, kind_of
 from issuer_host.facts.limits import MAX_LINE_BYTES
 from issuer_host.facts.refusal import tell
 from issuer_host.facts.request_lines import DECIDE, SET_STATUS, objects_of, pan_of_line
@@ -22,7 +22,7 @@ LINES = 3
 STATUS_LINE = re.compile(rf"{SET_STATUS} (?P<pan>[0-9]{{8,19}}) (?P<psn>[0-9]{{2}}) (?P<digit>[0-9])")
 PSN_TAG = b"\x5f\x34"
 NO_PSN = "00"
-NOT_RECORDED = f"{REFUSED} {int(Refusal.STORE_FAULT)}"
+NOT_RECORDED = f"{REFUSED} {int(RefusalNumber.STORE_FAULT)}"
 
 
 class Decline(NamedTuple):

@@ -164,7 +164,7 @@ class CardWorks:
         queue.append(work)
         if len(queue) > 1:
             return
-        before = {entry for entry in self.hosting.entries() if entry.pan == work.pan}
+        before = {entry for entry in self.hosting.lines.entries() if entry.pan == work.pan}
         if before:
             self.before[work.pan] = before
         self.begin(work.pan)
@@ -177,7 +177,7 @@ class CardWorks:
         work = self.cards[pan][0]
         if pan in self.before or pan in self.running or not isinstance(work, Work):
             return
-        running = Running(work, work.steps(Ledger(self.hosting.records, self.file, self.hosting.settings.name)))
+        running = Running(work, work.steps(Ledger(self.hosting.reader.records, self.file, self.hosting.settings.name)))
         self.running[pan] = running
         self.go_on(running, None)
 
@@ -216,7 +216,7 @@ class CardWorks:
         kind = kind_of(answer).word
         if kind in RECORDED and len(words) == 3:
             shard, index = answer.split(" ")[1:3]
-            self.hosting.records.note(form, (words[0], words[1]), words[2], int(shard), int(index))
+            self.hosting.reader.records.note(form, (words[0], words[1]), words[2], int(shard), int(index))
 
     def done(self, pan: str) -> None:
         """The first work on a card is done: the lines that waited for it go on, up to the next work."""
@@ -254,7 +254,7 @@ class CardWorks:
 
     def ready(self) -> None:
         """The journals were read: all work begins, once what was interrupted is settled."""
-        self.file.settle_orders(self.hosting.records)
+        self.file.settle_orders(self.hosting.reader.records)
         for pan in list(self.cards):
             self.begin(pan)
 

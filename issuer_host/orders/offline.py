@@ -17,7 +17,7 @@ from issuer_host.files.card_records import records_of
 from issuer_host.files.folders import open_own
 from issuer_host.host import offline
 from issuer_host.host.offline import Card
-from issuer_host.orders.arguments import Options
+from issuer_host.orders.arguments import OrderOptions
 from issuer_host.orders.intent_log import WorkFile, restoring_line
 from issuer_host.orders.order import Order, order_of
 from issuer_host.orders.units import stopped
@@ -100,7 +100,7 @@ def settle(file: WorkFile) -> None:
             file.end(begun.number)
 
 
-def order(options: Options, texts: Sequence[str]) -> None:
+def order(options: OrderOptions, texts: Sequence[str]) -> None:
     where = options.config, options.journal, options.program
     lines = orders_of(texts)
     with alone(options.journal), stopped(options.service), contextlib.closing(WorkFile(options.journal)) as file:

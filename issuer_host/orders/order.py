@@ -7,14 +7,14 @@ no record, and may be put again.
 from collections.abc import Callable
 from typing import NamedTuple, Optional
 
-from issuer_host.facts.answers import RECORDED, REFUSED, Refusal, kind_of
+from issuer_host.facts.answers import RECORDED, REFUSED, RefusalNumber, kind_of
 from issuer_host.facts.masks import name_of_card
 from issuer_host.files.card_records import Card
 from issuer_host.orders.in_order import Ledger, Put, Steps, Work
 from issuer_host.orders.intent_log import Begun, sum_of
 from issuer_host.orders.texts import BEFORE, DONE, NOT_DONE, is_number_of_line, words_of
 
-NOT_RECORDED = f"{REFUSED} {int(Refusal.STORE_FAULT)}"
+NOT_RECORDED = f"{REFUSED} {int(RefusalNumber.STORE_FAULT)}"
 
 
 class Order(NamedTuple):

@@ -104,10 +104,6 @@ class Serving:
         # Whether requests come here: without them a host ends when it is idle.
         self.is_served = self.is_stopping = False
 
-    def begin(self) -> None:
-        if self.orders.path:
-            self.orders.open()
-
     # Requests
 
     def take(self, entry: Entry) -> bool:

@@ -56,7 +56,9 @@ class OrderSocket:
         self.listening: Optional[socket.socket] = None
 
     def open(self) -> None:
-        """Listens. Who can't goes on without orders, and says so."""
+        """Listens, if there is a path. Who can't goes on without orders, and says so."""
+        if not self.path:
+            return
         try:
             self.listening = listening_at(self.path)
         except OSError as fault:

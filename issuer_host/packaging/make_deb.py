@@ -58,18 +58,18 @@ MANUALS = ("issuer.1", "issuer-journal.5", "issuer-deploy.8", "issuer-gateway.8"
 PAGES = (*sorted(name for name in os.listdir(os.path.join(HOME, "docs")) if name.endswith(".md")), "CHANGELOG.md")
 
 
-class Options(NamedTuple):
+class PackageOptions(NamedTuple):
     """The words of the command."""
 
     built: str
     to: str
 
 
-def options_of(words: Sequence[str]) -> Options:
+def options_of(words: Sequence[str]) -> PackageOptions:
     parser = argparse.ArgumentParser(usage=__doc__)
     parser.add_argument("--from", dest="built", default=BUILD)
     parser.add_argument("--to", default=BUILD)
-    return Options(**vars(parser.parse_args(words)))
+    return PackageOptions(**vars(parser.parse_args(words)))
 
 
 def version_of() -> str:
@@ -185,7 +185,7 @@ def add_control(tree: Tree, maintainer: str) -> None:
     tree.write("DEBIAN/prerm", BEFORE_REMOVE, 0o755)
 
 
-def make(options: Options) -> str:
+def make(options: PackageOptions) -> str:
     """Makes the package, and returns its path."""
     if not shutil.which("dpkg-deb"):
         raise Refusal("dpkg-deb isn't installed")

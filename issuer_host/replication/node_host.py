@@ -47,7 +47,7 @@ class NodeHost:
 
     def begin(self) -> None:
         """Opens the socket of orders."""
-        self.serving.begin()
+        self.serving.orders.open()
 
     def start(self) -> None:
         """Starts the host, which gets what was delivered so far."""

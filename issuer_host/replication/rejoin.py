@@ -28,18 +28,18 @@ LOST = "true"
 AGAIN_SECONDS = 2.0
 
 
-class Options(NamedTuple):
+class RejoinOptions(NamedTuple):
     """The words of the command."""
 
     every: float
     control: str
 
 
-def options_of(words: Sequence[str]) -> Options:
+def options_of(words: Sequence[str]) -> RejoinOptions:
     parser = argparse.ArgumentParser(usage=__doc__)
     parser.add_argument("--every", type=float, default=10.0)
     parser.add_argument("--control", default="rabbitmqctl")
-    return Options(**vars(parser.parse_args(words)))
+    return RejoinOptions(**vars(parser.parse_args(words)))
 
 
 def control(command: str, *words: str) -> "subprocess.CompletedProcess[str]":

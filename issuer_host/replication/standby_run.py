@@ -10,7 +10,7 @@ from issuer_host.facts.refusal import Refusal
 from issuer_host.facts.statuses import NOT_AGAIN, Status, meaning_of
 from issuer_host.files.seal_writer import Sealing
 from issuer_host.host.event_loop import Action, Loop
-from issuer_host.host.process import Host
+from issuer_host.host.process import HostProcess
 from issuer_host.replication.messages import Record
 from issuer_host.replication.record_origins import FedLines, Origin, refusal_of
 
@@ -38,7 +38,7 @@ class StandbyRun:
         # Who reports of it.
         self.name = name
         self.on_fault = on_fault
-        self.run: Optional[Host] = None
+        self.run: Optional[HostProcess] = None
         self.sealing = Sealing(journal, name)
         # From which message of the stream the lines came that the run was given.
         self.fed = FedLines()
@@ -53,7 +53,7 @@ class StandbyRun:
         """Gives a record to the run, which is begun if there is none."""
         if self.run is None or not self.run.is_open or self.run.is_full():
             self.end_now()
-            self.run = Host(self.loop, self.command, lambda _: None, self.ended)
+            self.run = HostProcess(self.loop, self.command, lambda _: None, self.ended)
             self.sealing = Sealing(self.journal, self.name)
             self.fed.begin()
         self.run.put(f"{record.shard} {record.place} {record.text}".encode("ascii"))
@@ -84,7 +84,7 @@ class StandbyRun:
         run.close_when_written()
         self.loop.call_later(END_SECONDS, lambda: self.end_late(run))
 
-    def end_late(self, run: Host) -> None:
+    def end_late(self, run: HostProcess) -> None:
         """Kills a run that didn't end in time."""
         if run is self.run:
             self.kill()

@@ -64,7 +64,7 @@ NODE = "--node"
 STREAMS = ("standard input", "standard output", "the error output")
 
 
-class Start(NamedTuple):
+class CarefulStart(NamedTuple):
     """The words of the command: those before the program's own, and those."""
 
     begins: bool
@@ -77,7 +77,7 @@ class Start(NamedTuple):
     words: list[str]
 
 
-def start_of(words: Sequence[str]) -> Start:
+def start_of(words: Sequence[str]) -> CarefulStart:
     given = set()
     program = None
     words = list(words)
@@ -90,7 +90,7 @@ def start_of(words: Sequence[str]) -> Start:
         else:
             given.add(words[0])
             words = words[1:]
-    return Start("--begin" in given, ACCEPTS in given, program, NODE in given, words)
+    return CarefulStart("--begin" in given, ACCEPTS in given, program, NODE in given, words)
 
 
 def needed(option: Option, words: Sequence[str]) -> str:
@@ -121,7 +121,7 @@ def owners_of(words: Sequence[str]) -> set[int]:
     return found
 
 
-def program_of(start: Start) -> Optional[str]:
+def program_of(start: CarefulStart) -> Optional[str]:
     """Returns the path of the program that is started, or None if there is no proved one."""
     if start.program is not None:
         return start.program
@@ -144,7 +144,7 @@ def is_proved_soon() -> bool:
     return False
 
 
-def hand_over(start: Start) -> int:
+def hand_over(start: CarefulStart) -> int:
     """Checks all that there is to check, and becomes the program. It returns only if it doesn't."""
     user = os.getuid()
     os.umask(0o077)

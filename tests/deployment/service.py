@@ -12,7 +12,7 @@ from issuer_host.facts.limits import WINDOW
 from issuer_host.facts.paths import HOME
 from issuer_host.facts.request_lines import pan_of_line
 from issuer_host.facts.statuses import NOT_RESTARTED
-from issuer_host.gateway.figures import Figures
+from issuer_host.gateway.figures import GatewayFigures
 from issuer_host.host.supervisor import LOAD_SECONDS
 from issuer_host.packaging.make_deb import DROP_INS, standby_of
 from runs import content_of, write_text
@@ -160,7 +160,7 @@ def figures_told() -> set[str]:
     for name in FIGURE_FILES:
         text = content_of(os.path.join(HOME, "issuer_host/telling", name))
         found |= {match.strip('"') for match in re.findall(r'"issuer_\w+"', text)}
-    return found | {name_of_figure(name) for name in re.findall(r"(?m)^# TYPE (\w+)", Figures(1).text())}
+    return found | {name_of_figure(name) for name in re.findall(r"(?m)^# TYPE (\w+)", GatewayFigures(1).text())}
 
 
 def name_of_figure(name: str) -> str:

@@ -109,4 +109,8 @@ def classes_have_one_job(tally: Tally) -> None:
             tally.holds(lines <= MOST_LINES, f"{place}: {name} has {lines} lines, {MOST_LINES} at most")
 
 
-CHECKS: list[Check] = [check_of(imports_follow_the_order)]
+CHECKS: list[Check] = [
+    check_of(imports_follow_the_order),
+    check_of(classes_have_names_of_their_own),
+    check_of(classes_have_one_job),
+]

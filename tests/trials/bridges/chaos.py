@@ -129,7 +129,7 @@ def events_of(options: Options, dice: random.Random, is_disk: bool) -> list[str]
 
 def ask_in_rounds(farm: Farm, order: Sequence[str], events: Sequence[str], dice: random.Random) -> Asked:
     """Asks all lines, with an event in each round."""
-    from issuer_host.broker.publisher import Question
+    from issuer_host.broker.publisher import PublishedRequest
     from trials.bridges.events import happen
     from trials.bridges.patient import PatientAsker
 
@@ -137,7 +137,7 @@ def ask_in_rounds(farm: Farm, order: Sequence[str], events: Sequence[str], dice:
     silences: dict[str, list[float]] = collections.defaultdict(list)
     times: list[float] = []
 
-    def answered(question: Question, text: str) -> None:
+    def answered(question: PublishedRequest, text: str) -> None:
         answers[question.line].append(text)
         times.append(time.monotonic())
 

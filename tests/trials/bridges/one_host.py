@@ -7,7 +7,7 @@ from collections.abc import Iterator, Mapping, Sequence
 
 from issuer_host.facts.answers import FRESH
 from issuer_host.host.event_loop import new_loop
-from issuer_host.host.process import Host
+from issuer_host.host.process import HostProcess
 
 
 class OneHost:
@@ -25,7 +25,7 @@ class OneHost:
         self.start = time.monotonic()
         self.loop = new_loop()
         os.environ.update(environment)
-        self.host = Host(self.loop, command, self.answered, lambda *_: self.loop.stop())
+        self.host = HostProcess(self.loop, command, self.answered, lambda *_: self.loop.stop())
         for name in environment:
             del os.environ[name]
 

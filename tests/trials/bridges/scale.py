@@ -220,11 +220,11 @@ def measure_behind(
     lines: Sequence[str],
     row: Row,
 ) -> Measured:
-    from issuer_host.broker.publisher import Asker, Question
+    from issuer_host.broker.publisher import Asker, PublishedRequest
 
     taken: list[float] = []
 
-    def answered(question: Question, _: str) -> None:
+    def answered(question: PublishedRequest, _: str) -> None:
         taken.append(time.monotonic() - question.began)
 
     with Asker(row.partitions, broker.url_file, row.flight, on_answer=answered) as asker:

@@ -169,7 +169,7 @@ class Silences:
 
 def ask_in_rounds(machines: "Machines", rounds: Sequence[Round], dice: random.Random) -> Asked:
     """Asks all messages, with an event in each round."""
-    from issuer_host.broker.publisher import Question
+    from issuer_host.broker.publisher import PublishedRequest
     from trials.machines.asker import PacedAsker
     from trials.machines.events import happen
 
@@ -177,7 +177,7 @@ def ask_in_rounds(machines: "Machines", rounds: Sequence[Round], dice: random.Ra
     found: dict[str, list[float]] = collections.defaultdict(list)
     silences = Silences()
 
-    def answered(question: Question, text: str) -> None:
+    def answered(question: PublishedRequest, text: str) -> None:
         answers[question.line].append(text)
         silences.answered(question.partition, question.began, time.monotonic())
 
