@@ -1,6 +1,7 @@
 """Request lines: their forms, and the PAN that a line names."""
-from collections.abc import Iterator
-from typing import NamedTuple
+import functools
+from collections.abc import Callable, Iterator
+from typing import NamedTuple, cast
 
 DECIDE, QUEUE, SET_STATUS = "A", "Q", "S"
 PAN_TAG = b"\x5a"
@@ -20,6 +21,10 @@ class DataObject(NamedTuple):
 
     tag: bytes
     value: bytes
+
+
+# (a third of the time of the class's own call)
+new_object = cast("Callable[[tuple[bytes, bytes]], DataObject]", functools.partial(tuple.__new__, DataObject))
 
 
 def pan_of_line(line: str) -> str:
@@ -44,16 +49,22 @@ def pan_of_bytes(value: bytes) -> str:
 
 def objects_of(data: bytes) -> Iterator[DataObject]:
     """The objects of chip data; bytes 00 between them are skipped. It ends before an object whose value isn't whole."""
-    at = 0
-    while at < len(data):
-        if data[at] == 0:
+    at, end = 0, len(data)
+    while at < end:
+        first = data[at]
+        if first == 0:
             at += 1
             continue
-        begin = end_of_tag(data, at)
-        length, value = length_at(data, begin)
-        if value + length > len(data):
+        # (nearly all tags have one byte, or two of which the second ends it, and nearly all lengths one byte)
+        begin = at + 1 if first & 0x1F != 0x1F else at + 2
+        if begin >= end or begin == at + 2 and data[at + 1] & 0x80:
+            begin = end_of_tag(data, at)
+        length, value = data[begin], begin + 1
+        if length >= 0x80:
+            length, value = length_at(data, begin)
+        if value + length > end:
             return
-        yield DataObject(data[at:begin], data[value : value + length])
+        yield new_object((data[at:begin], data[value : value + length]))
         at = value + length
 
 

@@ -3,6 +3,7 @@
 Figures of hosts that the gateway starts itself have the names that a bridge's have, so the same alerts see them.
 """
 
+import bisect
 import os
 import time
 from collections.abc import Iterator, Mapping
@@ -69,6 +70,8 @@ class GatewayFigures:
         self.measure: Callable[[], None] = lambda: None
         self.buckets = [0] * (len(SECONDS) + 1)
         self.seconds = 0.0
+        # The labels of answers, which are made once.
+        self.labels: dict[tuple[int, Kind], Labels] = {}
         # (a rate sees no first event of a counter that begins with it)
         for why in REASONS:
             self.labelled["refused"][(("why", why),)] = 0
@@ -89,7 +92,10 @@ class GatewayFigures:
         self.labelled[name][of_partition(partition)] = value
 
     def answered(self, partition: int, kind: Kind) -> None:
-        self.count("answers", *labels_of(partition, kind))
+        counts, labels = self.labelled["answers"], self.labels.get((partition, kind))
+        if labels is None:
+            labels = self.labels[partition, kind] = labels_of(partition, kind)
+        counts[labels] = counts.get(labels, 0) + 1
 
     def of_host(self, partition: int, journal: str) -> "PartitionFigures":
         return PartitionFigures(self, partition, journal)
@@ -97,11 +103,7 @@ class GatewayFigures:
     def responded(self, code: str, seconds: float) -> None:
         self.count("responses", ("code", code))
         self.seconds += seconds
-        for at, bound in enumerate(SECONDS):
-            if seconds <= bound:
-                self.buckets[at] += 1
-                return
-        self.buckets[-1] += 1
+        self.buckets[bisect.bisect_left(SECONDS, seconds)] += 1
 
     def set_disk(self, partition: int, disk: "Disk") -> None:
         self.set("journal_bytes", partition, disk.journal_bytes)

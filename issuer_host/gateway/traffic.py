@@ -79,7 +79,8 @@ class Traffic:
 
     def ask(self, request: RequestLine, source: object, began: float, then: Callable[[Optional[str]], None]) -> None:
         self.number += 1
-        now, partition = self.loop.time(), partition_of(request.pan, len(self.hosts))
+        now = self.loop.time()
+        partition = partition_of(request.pan, len(self.hosts)) if self.has_others else 0
         question = Question(self.number, request, partition, source, began, then)
         load = self.loads[partition]
         if self.has_others and self.is_above(load, source) or not self.hosts[partition].takes(question):
