@@ -58,6 +58,23 @@ def configuration(cards: int, shards: int = 2) -> dict[str, Any]:
     return {"shards": shards, "keys": keys, "cards": found, "table": table}
 
 
+# The code of element 39 by which a request's account declines, in these tests; and the codes of that status's row.
+ACCOUNT_SAYS = {"1987": "51", "1993": "151"}
+DECLINED, DECLINED_ARC = {"1987": "61", "1993": "121"}, "3631"
+
+
+def declining(name: str) -> str:
+    """A shipped dialect in which element 39 of a request says that its account declines."""
+    with open(os.path.join(HOME, "deploy/dialects", f"{name}.json"), encoding="utf-8") as text:
+        dialect = json.load(text)
+    return json.dumps(dialect | {"declines": {ACCOUNT_SAYS[dialect["edition"]]: ACCOUNT}})
+
+
+def declined(codec: Codec, message: Message) -> Message:
+    """The message of a request that its account declines."""
+    return message | {39: ACCOUNT_SAYS[codec.edition]}
+
+
 class Issuer:
     """Configurations and journals of one or more partitions in a folder, which the program has begun."""
 
