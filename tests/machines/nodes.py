@@ -427,7 +427,8 @@ class Room:
             if machine is not chosen:
                 for name in os.listdir(os.path.dirname(machine.journal(number))):
                     os.remove(os.path.join(os.path.dirname(machine.journal(number)), name))
-                for ending in (*(f".{shard:02d}.v2" for shard in range(SHARDS)), ".work"):
+                journals = [f".{shard:02d}.v2" for shard in range(SHARDS)]
+                for ending in (*(f"{ending}.seals" for ending in journals), *journals, ".work"):
                     shutil.copyfile(chosen.journal(number) + ending, machine.journal(number) + ending)
             machine.run("--begin", machine.file)
             machine.start()
