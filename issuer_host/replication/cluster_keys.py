@@ -6,11 +6,11 @@ of them signed is believed.
 import hashlib
 import os
 import re
-import stat
 from typing import NamedTuple
 
 from issuer_host.facts.refusal import Refusal
-from issuer_host.files.private_files import are_others_let_in
+from issuer_host.files.private_files import check_secret
+from issuer_host.files.regular_files import open_regular
 
 # The digits of a key, two for each byte, and how many keys a file has at most.
 KEY = re.compile(r"(?:[0-9A-Fa-f]{2}){32,256}")
@@ -38,11 +38,11 @@ def fingerprint_of(key: bytes) -> str:
 def read(path: str) -> ClusterKeys:
     """Reads a file of keys. Refuses one that is missing, that others could read, or that isn't of this form."""
     try:
-        with open(os.open(path, os.O_RDONLY | os.O_NONBLOCK | os.O_CLOEXEC), "rb") as opened:
-            check_owner(path, os.fstat(opened.fileno()))
+        with open(open_regular(path, os.O_RDONLY), "rb") as opened:
             text = opened.read(MAX_BYTES + 1)
     except OSError as fault:
         raise Refusal(f"the cluster's key {path} can't be read: {fault.strerror}; {PAGE}") from fault
+    check_secret(path, "cluster's key", "digits")
     lines = text.decode("latin-1").split("\n")
     if lines[-1] == "":
         lines.pop()
@@ -52,15 +52,3 @@ def read(path: str) -> ClusterKeys:
             f"{path} has a line for each key, {MAX_KEYS} at most, each of 64 hexadecimal digits or more; {PAGE}"
         )
     return ClusterKeys(path, tuple(map(bytes.fromhex, lines)))
-
-
-def check_owner(path: str, found: os.stat_result) -> None:
-    """Refuses a file that another user than this one or root owns, or that others can open."""
-    owners = {0, os.geteuid()}
-    if not stat.S_ISREG(found.st_mode):
-        raise Refusal(f"the cluster's key {path} is no regular file; {PAGE}")
-    if found.st_uid not in owners:
-        raise Refusal(f"the cluster's key {path} belongs to user {found.st_uid}, who can read it: chown it to root")
-    if are_others_let_in(path, found, owners):
-        mode = f"mode {stat.S_IMODE(found.st_mode):04o}"
-        raise Refusal(f"the cluster's key {path} has {mode}, so that others could read it: chmod 600 {path}")

@@ -79,7 +79,7 @@ def starts_with_a_key_of_its_own_alone(tally: Tally) -> None:
         write_text(host.folder, "cluster-key", f"{right}\n")
         for mode in (0o644, 0o640, 0o604, 0o660):
             os.chmod(key, mode)
-            is_refused(tally, run(tally, "node", path), f"a key of mode {mode:o}", "so that others could read it")
+            is_refused(tally, run(tally, "node", path), f"a key of mode {mode:o}", "so that others could open it")
         os.remove(key)
         os.mkfifo(key, 0o600)
         is_refused(tally, run(tally, "node", path), "a pipe", "is no regular file")
