@@ -13,7 +13,7 @@ from issuer_host.facts.refusal import Refusal
 from issuer_host.files.run_mark import RunMark, lock_mark
 from issuer_host.files.seals import Left, Seals, count_seals
 from issuer_host.replication.messages import NOTES, Record
-from issuer_host.replication.notes import Notes
+from issuer_host.replication.notes import Notes, was_changed
 from issuer_host.replication.positions import Position
 from issuer_host.replication.record_origins import NOWHERE, RefusedRecord
 from issuer_host.replication.standby_run import StandbyRun, TransientFault
@@ -130,11 +130,17 @@ class JournalFiles:
 
     def put(self, record: Record) -> None:
         if record.shard == NOTES:
-            self.notes.append(record.text)
+            self.put_note(record)
             return
         if record.shard >= len(self.shards) or len(record.text) >= MAX_RECORD_LINE:
             raise RefusedRecord(f"shard {record.shard} has no journal here that could have it")
         self.standby.put(record, self.origin)
+
+    def put_note(self, note: Record) -> None:
+        """Appends a note. (One with another line's sum would be taken for one that the disk changed.)"""
+        if was_changed(note.text):
+            raise RefusedRecord(f"note {note.place} has a sum that isn't its own")
+        self.notes.append(note.text)
 
     def truncate(self, shard: int, length: int) -> None:
         if length < self.log(shard).count:

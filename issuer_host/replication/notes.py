@@ -3,22 +3,42 @@
 They are the records of one more shard: each is a line of `JOURNAL.work`, and counts as records do. So whichever machine
 goes on knows what was begun before a line was put, and settles it. The file may begin with a line that says the place
 of its first note: what nobody asks for any more is left out when the file is long.
+
+A note that can't be parsed isn't made. If one comes all the same, who serves passes over it and says so: orders and
+declines don't know it, and requests don't ask for it.
 """
 import collections
 import contextlib
+import errno
 import os
+import re
 from typing import Any, Protocol
 
-from issuer_host.facts.refusal import Refusal
+from issuer_host.facts.journals import MAX_RECORD_LINE
+from issuer_host.facts.limited import LimitedTelling
+from issuer_host.facts.refusal import Refusal, tell
 from issuer_host.files.folders import folder_of, sync_folder
 from issuer_host.files.regular_files import open_regular
 from issuer_host.files.summed_lines import may_be_torn, said_of, summed
 from issuer_host.files.whole_writes import write_whole
 from issuer_host.host.event_loop import Action
-from issuer_host.orders.intent_log import Begun, ENDING, KNOWN, MOST_LINES, WorkFile
+from issuer_host.orders.intent_log import Begun, DECLINE, ENDING, KNOWN, MOST_LINES, WorkFile
+from issuer_host.orders.texts import FORMS
 from issuer_host.replication.messages import NOTES, Record
 
 FIRST = "first"
+# The members of a note that work begins, and of one that says what became of it.
+NUMBER = re.compile(r"[0-9A-Za-z/-]{1,60}")
+BEGUN = {
+    "number": NUMBER,
+    "form": re.compile(rf"|[{''.join(FORMS)}]|{DECLINE}"),
+    "pan": re.compile(r"|[0-9]{8,20}"),
+    "psn": re.compile(r"|[0-9]{2}"),
+    "value": re.compile(r"[0-9a-f]{0,64}"),
+    "before": re.compile(r"[0-9]?"),
+}
+ENDED = {"number": NUMBER, "answer": re.compile(r"[ -~]*")}
+TOTAL = "total"
 
 
 def notes_path(journal: str) -> str:
@@ -138,7 +158,8 @@ class Notes:
         """Writes the file anew without what nobody asks for any more. All notes count."""
         known = WorkFile(self.journal)
         for line in self.all():
-            take(known, line)
+            with contextlib.suppress(ValueError):
+                known.take(work_of(line))
         lines = [as_note(begun._asdict()) for begun in known.open.values()]
         for number, (value, answer) in list(known.ended.items())[-KNOWN:]:
             lines.append(as_note(Begun(number, "", "", "", 0, value)._asdict()))
@@ -148,13 +169,28 @@ class Notes:
 
 
 def as_note(said: "dict[str, Any]") -> str:
-    return summed(said)
+    """Returns the text of a note. An OSError says that it couldn't be parsed."""
+    text = summed(said)
+    try:
+        work_of(text)
+    except ValueError as fault:
+        raise OSError(errno.EINVAL, f"it makes no note that can be read: {fault}") from fault
+    return text
 
 
-def take(file: WorkFile, line: str) -> None:
-    with contextlib.suppress(ValueError, TypeError, KeyError):
-        # (a line that couldn't be written whole is none)
-        file.take(said_of(line))
+def work_of(text: str) -> "dict[str, Any]":
+    """Returns what a note says. One that can't be parsed is a ValueError."""
+    said = said_of(text)
+    if len(text) >= MAX_RECORD_LINE:
+        raise ValueError("it is longer than a record")
+    forms = ENDED if "answer" in said else BEGUN
+    numbers = [] if forms is ENDED else [said.pop(TOTAL, None)]
+    if set(said) != set(forms) or not all(type(one) is int and one >= 0 for one in numbers):
+        raise ValueError("its members are others")
+    for name, form in forms.items():
+        if not isinstance(said[name], str) or not form.fullmatch(said[name]):
+            raise ValueError(f"its {name} has another form")
+    return {**said, TOTAL: numbers[0]} if numbers else said
 
 
 class NoteStream(Protocol):
@@ -181,8 +217,14 @@ class NotedWork(WorkFile):
         """Takes what the notes say: another machine may have written them."""
         self.open.clear()
         self.ended.clear()
-        for line in self.stream.notes().all():
-            take(self, line)
+        notes = self.stream.notes()
+        limited = LimitedTelling(lambda text: tell("node", text))
+        lines = notes.all()
+        for place, line in enumerate(lines, notes.length() - len(lines)):
+            try:
+                self.take(work_of(line))
+            except ValueError as fault:
+                limited.tell(f"{notes.path}: note {place} is passed over, and no order or decline knows it: {fault}")
 
     def begin(self, begun: Begun) -> None:
         """Notes that work begins. An OSError says that it may not."""

@@ -11,11 +11,11 @@ from issuer_host.facts.journals import VERSION_LINE
 from issuer_host.facts.refusal import Refusal
 from issuer_host.facts.statuses import Status
 from issuer_host.files.seals import Seals
-from issuer_host.orders.intent_log import Begun, MOST_LINES
+from issuer_host.orders.intent_log import Begun, DECLINE, MOST_LINES
 from issuer_host.replication import cluster_keys, positions
 from issuer_host.replication.journal_files import JournalFiles
 from issuer_host.replication.messages import Barrier, LOGS, NOTES, Record
-from issuer_host.replication.notes import Notes, as_note, read_notes, write_notes
+from issuer_host.replication.notes import Notes, as_note, read_notes, work_of, write_notes
 from issuer_host.replication.record_origins import FedLines, NOWHERE, Origin, RefusedRecord
 from issuer_host.replication.standby_run import END_SECONDS, StandbyRun, TransientFault
 from runs import PANS, SHARDS, write_bytes, write_text
@@ -381,6 +381,41 @@ def notes_are_kept(tally: Tally) -> None:
         tally.holds("hasn't the" in refused(Notes(host.name, MOST_LINES + 4).open), "notes that are missing")
 
 
+def makes_notes_that_can_be_parsed(tally: Tally) -> None:
+    """A note is made only if it can be parsed; other texts are none, whatever JSON they are."""
+    begun: "dict[str, Any]" = Begun("n/1", "S", PANS[0], "00", 3, "0" * 64, "1")._asdict()
+    ended: "dict[str, Any]" = {"number": "n/1", "answer": "set 0 7"}
+    for right in (begun, ended, {**begun, "form": "", "pan": "", "psn": "", "total": 0}, {**begun, "form": DECLINE}):
+        tally.expect(work_of(as_note(right)), right, "a note that is parsed")
+    tally.expect(work_of(json.dumps(begun)), begun, "a note of an older release")
+    wrong_numbers: "tuple[object, ...]" = ("", "é", "a b", "n" * 61, 1, [], None)
+    wrong_totals: "tuple[object, ...]" = (-1, True, "1", 1.0)
+    wrong_notes: "list[dict[str, Any]]" = [
+        *({**begun, "number": value} for value in wrong_numbers),
+        *({**begun, "pan": value} for value in (PANS[0] + "\n", "4x")),
+        *({**begun, "total": value} for value in wrong_totals),
+        *({**begun, "value": value} for value in ("xyz", "0" * 65)),
+        *({**ended, "answer": value} for value in ("a\nb", "é", "x" * 501)),
+        {},
+        {**begun, "more": 1},
+        {**ended, "more": 1},
+        {**begun, "form": "A"},
+        {"answer": "x"},
+    ]
+    for wrong in wrong_notes:
+        said = ""
+        try:
+            as_note(wrong)
+        except OSError as fault:
+            said = str(fault.strerror)
+        tally.holds(said.startswith("it makes no note that can be read"), f"{wrong} makes a note")
+    for text in ("", "no note", "[]", "7", '{"number":{},"form":1}', as_note(ended)[:-2]):
+        try:
+            tally.fail(f"{text} is parsed as {work_of(text)}")
+        except ValueError as fault:
+            tally.holds(str(fault), f"{text} is no note")
+
+
 def refuses_notes_that_were_changed(tally: Tally) -> None:
     """Each bit of a node's notes that is changed is found: they count, and another machine has them."""
     with new_host(tally) as host:
@@ -416,6 +451,7 @@ CHECKS = [
         ends_a_run_of_standby_that_hangs,
         knows_the_message_of_a_line,
         notes_are_kept,
+        makes_notes_that_can_be_parsed,
         refuses_notes_that_were_changed,
     )
 ]

@@ -24,7 +24,7 @@ from issuer_host.facts.paths import HOME
 from issuer_host.orders.intent_log import Begun, WorkFile
 from issuer_host.replication.message_mac import MessageMacs
 from issuer_host.replication.messages import Barrier, LOGS, Message, MessageFault, Record
-from issuer_host.replication.notes import read_notes
+from issuer_host.replication.notes import read_notes, work_of
 from issuer_host.replication.rule import Count
 from trials.bridges.cards import distinct_lines, whole_configuration, with_account_row
 from trials.bridges.private_broker import PrivateBroker, free_port
@@ -207,7 +207,7 @@ class Machine:
         """Returns the declines that were begun, by the notes of this machine, and that aren't ended."""
         known = WorkFile(self.journal(number))
         for note in read_notes(self.journal(number))[1]:
-            known.take(json.loads(note))
+            known.take(work_of(note))
         return known.declines()
 
     def position(self, number: int) -> dict[str, Any]:
