@@ -1,22 +1,6 @@
-"""The Python around the program, as one package. Each subpackage imports only from those before it in this list:
+"""The Python around the program, as one package of subpackages. Each imports only from those before it in `INSTALLED`.
 
-- `facts`: the facts about the program, each stated once
-- `files`: the journals and the files beside them
-- `configuration`: reads a configuration and names its faults
-- `keys`: check values, components, key blocks, and keys that a token wraps
-- `start`: the careful start
-- `host`: one run of the program after another, supervised
-- `orders`: operators' orders and accounts' declines
-- `broker`: the broker's queues, and the connection to it
-- `telling`: figures, and the state for the service manager
-- `commands`: the bridge, and the commands of operators
-- `gateway`: requests in ISO 8583
-- `replication`: a partition's records on several machines
-- `launcher`: `./issuer`
-- `building`: builds, proves and tests the program; an installed copy doesn't have it
-- `packaging`: the Debian package; an installed copy doesn't have it
-
-Each subpackage's first lines say what its modules are for.
+docs/MAP.md has the subpackages, a row for each of their modules, and where to look for what.
 
 A command stays where users call it, and is a few lines over a module here. It puts the package's home on its path:
 

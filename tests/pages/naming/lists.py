@@ -1,12 +1,15 @@
-"""The lists of the pages: faults with their edits and tests, definitions to read with their files, versions."""
+"""The lists of the pages: faults with their edits and tests, definitions to read, versions, and the map."""
+import os
 import re
 
 from checks import Tally
+from issuer_host import INSTALLED, OF_SOURCES
 from pages import faults
 from pages.naming.tree import found, tests_of, text_of, words_in
 
 DEFINITIONS = "docs/DEFINITIONS.md"
 CHANGES = "CHANGELOG.md"
+MAP = "docs/MAP.md"
 ROW = re.compile(r"\|(.*)\| (\w+), (\w+) \|")
 
 
@@ -50,3 +53,30 @@ def changes_begin_with_the_version(tally: Tally) -> None:
     tally.expect(first and first[1], "Not released" if is_open else version, f"{CHANGES}: its first section")
     has_row = is_open or f"\n| {version} |" in changes
     tally.holds(has_row, f"{CHANGES}: the table has no row for {version}")
+
+
+def rows_of_map(heading: str) -> dict[str, set[str]]:
+    """The rows of a section of the map: by the line above them the first words of those that are indented further."""
+    section = text_of(MAP).partition(f"\n{heading}\n")[2].partition("\n## ")[0]
+    found_rows: dict[str, set[str]] = {}
+    above = ""
+    for line in section.split("\n"):
+        if re.match(r" {4}\S", line):
+            above = line.strip().partition(":")[0]
+            found_rows[above] = set()
+        elif re.match(r" {6}\S", line):
+            found_rows[above].add(line.split()[0])
+    return found_rows
+
+
+def map_has_each_crate_and_module(tally: Tally) -> None:
+    """Each crate has a row in the map, and each module of issuer_host in the rows of its subpackage; no row is left."""
+    crates = {os.path.basename(os.path.dirname(path)) for path in found("crates/*/src")}
+    tally.expect(set().union(*rows_of_map("## The crates").values()), crates, f"the crates of {MAP}")
+    rows = rows_of_map("## The Python: `issuer_host`")
+    tally.expect(list(rows), [*INSTALLED, *OF_SOURCES], f"the subpackages of {MAP}, in their order")
+    for subpackage, named in rows.items():
+        paths = found(f"issuer_host/{subpackage}/*.py")
+        modules = {os.path.basename(path).removesuffix(".py") for path in paths} - {"__init__"}
+        tally.expect(sorted(named - modules), [], f"rows of {subpackage} in {MAP} without a module")
+        tally.expect(sorted(modules - named), [], f"modules of {subpackage} without a row in {MAP}")

@@ -125,7 +125,7 @@ class Tree:
         """Whether there is a file or folder: from the top, from the page's folder, or in a crate."""
         folder = os.path.dirname(page)
         name = ANY_NAME.sub("*", name.rstrip("/").removeprefix("./"))
-        places = [name, f"{folder}/{name}", f"crates/{name}"]
+        places = [name, f"{folder}/{name}", f"crates/{name}", f"issuer_host/{name}"]
         crate = folder if folder.startswith("crates/") else f"crates/{last or '*'}"
         if name.split("/")[0] in (*PARTS, "must-fail", "out"):
             places.append(f"{crate}/{name}")
