@@ -9,10 +9,8 @@ from collections.abc import Iterator
 from dataclasses import dataclass, field
 from typing import Optional
 
-# Sockets that have sent nothing: so many in all, and of an address. One more takes the place of the oldest.
-SILENT, SILENT_OF_ADDRESS = 512, 128
-# An address has this part of the handshakes at most, so that others get one meanwhile.
-PART_OF_HANDSHAKES = 4
+# An address has this part at most of the handshakes, and of the sockets that may be silent: so others have some too.
+PART_OF_ADDRESS = 4
 
 TOO_MANY = "too many connections"
 TOO_MANY_OF_ADDRESS = "too many connections of an address"
@@ -44,11 +42,15 @@ class Arrival:
 
 @dataclass
 class PortLimits:
-    """What bounds the port. With `silent_seconds` 0 a socket may be silent for ever."""
+    """What bounds the port. With `silent_seconds` 0 a socket may be silent for ever.
+
+    Of the sockets that have sent nothing one more than `silent` takes the place of the oldest.
+    """
 
     connections: int
     of_address: int
     handshakes: int
+    silent: int
     silent_seconds: float
     handshake_seconds: float
 
@@ -65,6 +67,11 @@ class Share:
     @property
     def connections(self) -> int:
         return len(self.waiting) + self.shaking + self.open
+
+
+def part_of(most: int) -> int:
+    """What an address may have of so many."""
+    return max(most // PART_OF_ADDRESS, 1)
 
 
 class Admission:
@@ -96,10 +103,10 @@ class Admission:
 
     def surplus(self, address: str) -> Optional[Arrival]:
         """The silent socket that makes room, if there are too many of this address or in all."""
-        share = self.shares.get(address)
-        if share is not None and len(share.silent) > SILENT_OF_ADDRESS:
+        share, most = self.shares.get(address), self.limits.silent
+        if share is not None and len(share.silent) > part_of(most):
             return next(iter(share.silent))
-        return next(iter(self.silent)) if len(self.silent) > SILENT else None
+        return next(iter(self.silent)) if len(self.silent) > most else None
 
     def oldest_silent(self) -> Optional[Arrival]:
         return next(iter(self.silent), None)
@@ -124,7 +131,7 @@ class Admission:
 
     def next_handshake(self, now: float) -> Optional[Arrival]:
         """The socket whose handshake begins now: addresses take turns. None if no handshake is free."""
-        most = max(self.limits.handshakes // PART_OF_HANDSHAKES, 1)
+        most = part_of(self.limits.handshakes)
         if self.shaking >= self.limits.handshakes:
             return None
         for address in self.turns:

@@ -10,7 +10,6 @@ from dataclasses import dataclass
 from typing import Any, Optional, Protocol
 
 from issuer_host.facts.statuses import Status
-from issuer_host.gateway import admission
 from issuer_host.gateway.admission import Admission, PortLimits
 from issuer_host.gateway.connection import Connection
 from issuer_host.gateway.figures import GatewayFigures
@@ -28,8 +27,8 @@ from issuer_host.telling.figures_server import FiguresServer
 TICK_SECONDS, EXPIRE_SECONDS = 1.0, 0.02
 # Of refused connections so many lines a second are told: a flood has no more than that of the log.
 PORT_LINES_A_SECOND = 2
-# Files beside the connections: two pipes a host, listeners, the loop, and sockets that have sent nothing.
-OTHER_FILES = 128 + admission.SILENT
+# Files beside the connections: two pipes a host, listeners, the loop.
+OTHER_FILES = 128
 # How long hosts may take to end once they have no more lines.
 END_SECONDS = 5.0
 
@@ -44,6 +43,8 @@ class Bounds:
     connections: int = 2000
     of_address: int = 512
     handshakes: int = 64
+    # Sockets that have sent nothing.
+    silent: int = 512
     seconds: float = 5.0
     frame_seconds: float = 10.0
     idle_seconds: float = 900.0
@@ -53,7 +54,8 @@ class Bounds:
 
     def of_port(self, by_tls: bool) -> PortLimits:
         silent = self.silent_seconds if by_tls else self.idle_seconds
-        return PortLimits(self.connections, self.of_address, self.handshakes, silent, self.handshake_seconds)
+        counts = self.connections, self.of_address, self.handshakes, self.silent
+        return PortLimits(*counts, silent, self.handshake_seconds)
 
 
 @dataclass(frozen=True)
@@ -260,8 +262,9 @@ class Gateway:
 
 
 def raise_file_limit(bounds: Bounds) -> None:
-    """Makes room for as many files as there may be connections, or takes fewer connections."""
-    needed = bounds.connections + OTHER_FILES
+    """Makes room for as many files as there may be connections and silent sockets, or takes fewer of both."""
+    sockets = bounds.connections + bounds.silent
+    needed = sockets + OTHER_FILES
     try:
         soft, hard = resource.getrlimit(resource.RLIMIT_NOFILE)
         most = needed if hard == resource.RLIM_INFINITY else min(needed, hard)
@@ -271,5 +274,6 @@ def raise_file_limit(bounds: Bounds) -> None:
         tell(f"the limit of open files can't be raised: {fault}")
         return
     if most < needed:
-        bounds.connections = max(most - OTHER_FILES, 1)
+        share = max(most - OTHER_FILES, 0) / sockets
+        bounds.connections, bounds.silent = (max(int(share * it), 1) for it in (bounds.connections, bounds.silent))
         tell(f"{hard} files may be open, so {bounds.connections} connections are taken")
