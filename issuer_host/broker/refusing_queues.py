@@ -5,7 +5,7 @@ import time
 DEAF_SECONDS = 10.0
 
 
-class DeafQueues:
+class RefusingQueues:
     def __init__(self) -> None:
         # Until when, by name, in the order in which they were added.
         self.until: dict[str, float] = {}

@@ -5,7 +5,7 @@ from typing import Optional, Protocol
 
 from issuer_host.broker import topology
 from issuer_host.broker.connection import Confirm, Link
-from issuer_host.broker.refusing_queues import DeafQueues
+from issuer_host.broker.refusing_queues import RefusingQueues
 from issuer_host.broker.reply_mac import ReplyMacs
 from issuer_host.broker.unacknowledged import Delivered, Flight
 from issuer_host.facts.limited import LimitedTelling
@@ -39,7 +39,7 @@ class ReplyFigures(Protocol):
         """A message went to the dead letters."""
 
 
-class Replying:
+class ReplySender:
     """The requests in flight of a connection, and their answers. `on_settled` is called after each request."""
 
     def __init__(
@@ -58,7 +58,7 @@ class Replying:
         self.on_settled = on_settled
         self.log = LimitedTelling(lambda text: tell(name, text))
         self.flight = Flight()
-        self.deaf = DeafQueues()
+        self.deaf = RefusingQueues()
 
     def settle(self, entry: Delivered, is_acknowledged: bool) -> None:
         channel = self.link.channel

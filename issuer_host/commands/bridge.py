@@ -33,7 +33,7 @@ from typing import Any, NamedTuple, NoReturn, Optional
 
 from issuer_host.broker import topology
 from issuer_host.broker.connection import Link
-from issuer_host.broker.replies import NO_REPLY_QUEUE, NO_REQUEST, Replying
+from issuer_host.broker.replies import NO_REPLY_QUEUE, NO_REQUEST, ReplySender
 from issuer_host.broker.reply_mac import ReplyMacs
 from issuer_host.broker.types import Callback, Channel, Delivery, Properties, Step
 from issuer_host.broker.unacknowledged import entry_of
@@ -42,7 +42,7 @@ from issuer_host.facts.statuses import Status
 from issuer_host.host.command import serving_command
 from issuer_host.host.event_loop import new_loop
 from issuer_host.host.line_host import HostSettings
-from issuer_host.orders.partition_host import Serving
+from issuer_host.orders.partition_host import PartitionHost
 from issuer_host.telling.figures import Figures, kinds_at
 from issuer_host.telling.service_manager import Readiness, notify
 
@@ -100,11 +100,11 @@ class BrokerBridge:
         parameters = topology.parameters_of(options.broker_file)
         self.link = Link(self.loop, parameters, self.steps_of, self.ready, self.lost)
         macs = ReplyMacs(options.broker_file)
-        self.replying = Replying(self.loop, self.link, macs, self.figures, self.end_if_idle, NAME)
+        self.replying = ReplySender(self.loop, self.link, macs, self.figures, self.end_if_idle, NAME)
         self.flight = self.replying.flight
         command = serving_command(options.config, options.journal, options.callers, options.program or "")
         settings = HostSettings(command, options.journal, NAME, orders=options.orders or "")
-        self.serving = Serving(self.loop, settings, self.figures, self.replying, self)
+        self.serving = PartitionHost(self.loop, settings, self.figures, self.replying, self)
         self.readiness = Readiness(NAME)
         self.is_stopping = False
         # Whether another bridge is the first one, or consumed before this one.

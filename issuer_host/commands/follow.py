@@ -34,7 +34,7 @@ from issuer_host.facts.limits import MAX_SHARDS, RUN_LINES
 from issuer_host.facts.refusal import Refusal, tell
 from issuer_host.facts.statuses import Status
 from issuer_host.files.durable_lines import AnswerPipe, FollowedJournal
-from issuer_host.files.seal_writer import Sealing
+from issuer_host.files.seal_writer import SealWriter
 from issuer_host.telling import textfile
 
 NAME = "follow"
@@ -104,7 +104,7 @@ class Follower:
         answers: AnswerPipe,
         output: Output,
         figures: Optional[str] = None,
-        sealing: Optional[Sealing] = None,
+        sealing: Optional[SealWriter] = None,
     ) -> None:
         self.name = name
         self.figures = figures
@@ -212,7 +212,7 @@ def main(words: Sequence[str]) -> int:
     try:
         starts = starts_of(options.starts)
         answers = AnswerPipe(options.answers)
-        sealing = Sealing(options.journal, NAME) if options.seals else None
+        sealing = SealWriter(options.journal, NAME) if options.seals else None
         follower = Follower(options.journal, starts, answers, Output(options.lines), options.figures, sealing)
         follower.follow(options.every)
     except Closed:

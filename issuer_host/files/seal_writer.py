@@ -12,7 +12,7 @@ PIECES = 16
 LOOKED_PIECES = 256
 
 
-class Sealing:
+class SealWriter:
     """The journals that one run of a host writes. A fault ends the sealing and nothing else: the next start seals."""
 
     def __init__(self, name: str, by: str = "bridge") -> None:

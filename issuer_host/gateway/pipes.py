@@ -11,7 +11,7 @@ from issuer_host.gateway.traffic import Question, Traffic
 from issuer_host.host.line_host import HostSettings
 from issuer_host.host.lines import Entry
 from issuer_host.orders.order import Order
-from issuer_host.orders.partition_host import Serving
+from issuer_host.orders.partition_host import PartitionHost
 
 
 class PipeHost:
@@ -21,7 +21,7 @@ class PipeHost:
         self, loop: asyncio.AbstractEventLoop, settings: HostSettings, traffic: Traffic, figures: PartitionFigures
     ) -> None:
         self.loop, self.traffic, self.figures = loop, traffic, figures
-        self.serving = Serving(AsyncioLoop(loop), settings, figures, self, self)
+        self.serving = PartitionHost(AsyncioLoop(loop), settings, figures, self, self)
         self.serving.is_served = True
         # The status of a run that a person has to see to, until another one is ready.
         self.refusal: Optional[int] = None

@@ -12,7 +12,7 @@ from issuer_host.facts.journals import journals_of
 from issuer_host.facts.refusal import tell
 from issuer_host.facts.statuses import meaning_of
 from issuer_host.files.open_journals import Look, OpenJournals
-from issuer_host.files.seal_writer import Sealing
+from issuer_host.files.seal_writer import SealWriter
 from issuer_host.host.event_loop import Loop
 from issuer_host.host.lifecycle import Action, Close, GiveUp, Kill, Lifecycle, Limits, Start, HostState, Wait
 from issuer_host.host.process import HostProcess
@@ -59,7 +59,7 @@ class Supervisor:
         self.owed = 0
         # The journals that the first run loaded: no run of this process goes on over other files.
         self.journals: Optional[OpenJournals] = None
-        self.sealing = Sealing(journal, name)
+        self.sealing = SealWriter(journal, name)
         # Whether a host is started as soon as it may be.
         self.is_needed = False
         # How many waits were begun: an earlier one counts for nothing.
@@ -150,7 +150,7 @@ class Supervisor:
             return
         self.waits += 1
         self.owed = 0
-        self.sealing = Sealing(self.journal, self.name)
+        self.sealing = SealWriter(self.journal, self.name)
         self.lifecycle.started(self.clock(), limits_of(self.journal))
         self.owner.started()
         self.put(PROBE)

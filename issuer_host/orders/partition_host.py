@@ -78,7 +78,7 @@ def is_request(body: bytes) -> bool:
     return body.startswith(DECIDE.encode() + b" ") and b"\n" not in body and len(body) <= MAX_BODY
 
 
-class Serving:
+class PartitionHost:
     """The host, and what is put to it."""
 
     def __init__(

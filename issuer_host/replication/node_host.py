@@ -8,7 +8,7 @@ from issuer_host.facts.statuses import Status, meaning_of
 from issuer_host.host.command import serving_command
 from issuer_host.host.event_loop import Action, Loop
 from issuer_host.host.line_host import HostSettings
-from issuer_host.orders.partition_host import Serving
+from issuer_host.orders.partition_host import PartitionHost
 from issuer_host.replication.messages import Record
 from issuer_host.replication.node_file import NodeSettings, PartitionSettings
 from issuer_host.replication.notes import NotedWork, Notes
@@ -43,7 +43,9 @@ class NodeHost:
         self.failed_starts = 0
         command = serving_command(settings.configuration, settings.journal, settings.callers, node.program or "", NODE)
         host = HostSettings(command, settings.journal, f"node: partition {settings.number}", orders=settings.orders)
-        self.serving = Serving(loop, host, figures, consumer.replies, self, self, NotedWork(settings.journal, self))
+        self.serving = PartitionHost(
+            loop, host, figures, consumer.replies, self, self, NotedWork(settings.journal, self)
+        )
 
     def begin(self) -> None:
         """Opens the socket of orders."""

@@ -7,12 +7,12 @@ line of an order or of an account's decline is put. When another's barrier count
 A request goes this way:
 
 1. `QueueConsumer.take` gets it from the queue, and `PartitionNode.delivered` gives it to `NodeHost.take`, which puts it
-   to the host (`Serving.take`).
+   to the host (`PartitionHost.take`).
 2. The host's answer comes to `NodeHost.pass_on`. `RecordedAnswers.write_records` reads the answer's record from the
    journal, and `Bridge.recorded` has `Replica.publish` write it to the stream.
 3. The stream delivers the record to all machines. Here `StreamReader.read` gives it to `Bridge.read`, which counts it,
-   and `Replica.reply` lets the answer go: `Serving.answered`.
-4. `Replying.send` sends the reply, and acknowledges the request once the broker has confirmed that.
+   and `Replica.reply` lets the answer go: `PartitionHost.answered`.
+4. `ReplySender.send` sends the reply, and acknowledges the request once the broker has confirmed that.
 """
 import fcntl
 import os

@@ -4,7 +4,7 @@ from typing import Protocol
 
 from issuer_host.broker import topology
 from issuer_host.broker.connection import Link
-from issuer_host.broker.replies import ReplyFigures, Replying
+from issuer_host.broker.replies import ReplyFigures, ReplySender
 from issuer_host.broker.reply_mac import ReplyMacs
 from issuer_host.broker.types import Channel, Delivery, Properties, Step
 from issuer_host.broker.unacknowledged import Delivered, entry_of
@@ -48,7 +48,7 @@ class QueueConsumer:
         parameters.heartbeat = HEARTBEAT
         self.link = Link(loop, parameters, self.steps_of, self.opened, self.lost)
         macs = ReplyMacs(node.broker_file)
-        self.replies = Replying(loop, self.link, macs, figures, lambda: None, f"node: partition {number}")
+        self.replies = ReplySender(loop, self.link, macs, figures, lambda: None, f"node: partition {number}")
         self.tag = ""
         # Before this time nothing begins, though there is a connection.
         self.not_before = 0.0

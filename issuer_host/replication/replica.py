@@ -1,6 +1,6 @@
 """A replica of a partition: this machine's journals, the stream and the rule, from one position on.
 
-It is what `rule.Outside` asks for. A partition that begins again has a new replica.
+It does what `rule.BridgeActions` asks for. A partition that begins again has a new replica.
 """
 import uuid
 from typing import Any, Protocol

@@ -1,6 +1,6 @@
 """The rule by which the messages of a partition's stream make its history, and by which a bridge answers.
 
-It knows neither broker nor files: `Outside` is what a bridge does, and `Journals` are those of its machine.
+It knows neither broker nor files: `BridgeActions` are what a bridge does, and `Journals` are those of its machine.
 
 The stream is the one order in which all machines see a partition's messages.
 
@@ -94,7 +94,7 @@ class Journals(Protocol):
         """A record that the journals have counts: the next one of its shard."""
 
 
-class Outside(Protocol):
+class BridgeActions(Protocol):
     """What a bridge does outside."""
 
     def publish(self, message: Message) -> None:
@@ -141,7 +141,7 @@ class Bridge:
         "is_releasing",
     )
 
-    def __init__(self, machine: str, count: Count, journals: Journals, outside: Outside) -> None:
+    def __init__(self, machine: str, count: Count, journals: Journals, outside: BridgeActions) -> None:
         self.machine = machine
         self.count = count
         self.journals = journals

@@ -8,7 +8,7 @@ from typing import Optional
 
 from issuer_host.facts.refusal import Refusal
 from issuer_host.facts.statuses import NOT_AGAIN, Status, meaning_of
-from issuer_host.files.seal_writer import Sealing
+from issuer_host.files.seal_writer import SealWriter
 from issuer_host.host.event_loop import Action, Loop
 from issuer_host.host.process import HostProcess
 from issuer_host.replication.messages import Record
@@ -39,7 +39,7 @@ class StandbyRun:
         self.name = name
         self.on_fault = on_fault
         self.run: Optional[HostProcess] = None
-        self.sealing = Sealing(journal, name)
+        self.sealing = SealWriter(journal, name)
         # From which message of the stream the lines came that the run was given.
         self.fed = FedLines()
         # What is called when the run has ended that is to end; None if it isn't to end.
@@ -54,7 +54,7 @@ class StandbyRun:
         if self.run is None or not self.run.is_open or self.run.is_full():
             self.end_now()
             self.run = HostProcess(self.loop, self.command, lambda _: None, self.ended)
-            self.sealing = Sealing(self.journal, self.name)
+            self.sealing = SealWriter(self.journal, self.name)
             self.fed.begin()
         self.run.put(f"{record.shard} {record.place} {record.text}".encode("ascii"))
         self.fed.add(self.run.lines, origin)
