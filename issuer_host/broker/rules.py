@@ -8,7 +8,7 @@ from collections.abc import Iterator, Mapping, Sequence
 from typing import NamedTuple
 
 from issuer_host.broker import topology
-from issuer_host.broker.settings import BETWEEN_NODES, ENCRYPTED, Facts, PLAIN, Permissions, Policy
+from issuer_host.broker.settings import BETWEEN_NODES, ENCRYPTED, Facts, PLAIN, Permissions, Policy, TopicPermissions
 
 GUEST = "guest"
 EVERY = "^issuer[.].*"
@@ -36,6 +36,10 @@ LOOPBACK = ("127.0.0.1", "::1")
 QUEUES = re.compile(r"issuer[.](requests[.][0-9]+([.]records)?|dead|reply[.].*)")
 
 
+# What an exchange of answers needs that an earlier version declared.
+ANEW = "end publishers and bridges, and run deploy/queues --replies-anew"
+
+
 class Expected(NamedTuple):
     """What a broker is set for."""
 
@@ -53,10 +57,20 @@ def what_is_missing(facts: Facts, expected: Expected) -> list[str]:
     return [*found, *of_queues(facts, expected), *of_bindings(facts, expected), *of_wires(facts)]
 
 
+def own_queues(user: str) -> str:
+    """Returns the pattern of a publisher's reply queues, without their first word."""
+    return f"reply[.]{re.escape(user).replace(chr(92) + '-', '-').replace(chr(92) + '.', '[.]')}[.]{NUMBERS}"
+
+
 def publisher_may(user: str) -> Permissions:
     """Returns what a publisher may: ask, and declare and read the reply queues of its own name, which are few."""
-    own = f"reply[.]{re.escape(user).replace(chr(92) + '-', '-').replace(chr(92) + '.', '[.]')}[.]{NUMBERS}"
+    own = own_queues(user)
     return Permissions(f"^issuer[.]{own}$", f"^issuer[.](requests|{own})$", f"^issuer[.](replies|{own})$")
+
+
+def publisher_binds(user: str) -> TopicPermissions:
+    """Returns by which names a publisher may bind to the answers: by those of its own reply queues."""
+    return TopicPermissions("^$", f"^issuer[.]{own_queues(user)}$")
 
 
 def of_users(facts: Facts, expected: Expected) -> Iterator[str]:
@@ -84,6 +98,10 @@ def of_publishers(facts: Facts, expected: Expected) -> Iterator[str]:
     """Nobody's share is without a limit."""
     others = (GUEST, expected.operator, expected.bridge)
     for user in sorted(user for user in facts.permissions if user not in others):
+        binds = publisher_binds(user)
+        if facts.topic_permissions.get(user, {}).get(topology.REPLIES) != binds:
+            words = f"-p {expected.host} {user} {topology.REPLIES} '{binds.write}' '{binds.read}'"
+            yield f"the publisher {user} may read the answers of others: rabbitmqctl set_topic_permissions {words}"
         lacks = lacking(PUBLISHER_LIMITS, facts.limits.get(user, {}))
         if lacks:
             command = f"rabbitmqctl set_user_limits {user} '{text_of(lacks)}'"
@@ -163,6 +181,9 @@ def of_streams(facts: Facts, expected: Expected) -> Iterator[str]:
 
 def of_bindings(facts: Facts, expected: Expected) -> Iterator[str]:
     """Each partition's queue gets its requests, and no other queue gets a copy of any."""
+    kind = facts.exchanges.get(topology.REPLIES)
+    if kind not in (None, topology.REPLIES_TYPE):
+        yield f"the exchange {topology.REPLIES} is of type {kind}: {ANEW}"
     keys = {(topology.queue_of(partition), str(partition)) for partition in range(expected.partitions)}
     bound = facts.bindings.get(topology.REQUESTS, set())
     for queue, key in sorted(keys - bound):

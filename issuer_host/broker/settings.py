@@ -37,6 +37,13 @@ class Permissions(NamedTuple):
     read: str
 
 
+class TopicPermissions(NamedTuple):
+    """By which routing keys of an exchange a user may publish, and bind, as patterns."""
+
+    write: str
+    read: str
+
+
 class BrokerListener(NamedTuple):
     """Where the broker can be reached."""
 
@@ -58,11 +65,15 @@ class Facts(NamedTuple):
 
     users: list[str]
     permissions: dict[str, Permissions]
+    # By user, then by topic exchange: by which routing keys it may publish, and bind.
+    topic_permissions: dict[str, dict[str, TopicPermissions]]
     limits: dict[str, dict[str, int]]
     host_limits: dict[str, int]
     policies: list[Policy]
     operator_policies: list[Policy]
     queues: dict[str, dict[str, object]]
+    # The type of each exchange.
+    exchanges: dict[str, str]
     # By exchange: the queues that are bound to it, each with its routing key.
     bindings: dict[str, set[tuple[str, str]]]
     max_message_size: int
@@ -138,6 +149,13 @@ def bindings_of(rows: Any) -> dict[str, set[tuple[str, str]]]:
     return found
 
 
+def topic_permissions_of(rows: Any) -> dict[str, dict[str, TopicPermissions]]:
+    found: dict[str, dict[str, TopicPermissions]] = {}
+    for row in rows:
+        found.setdefault(row["user"], {})[row["exchange"]] = TopicPermissions(row["write"], row["read"])
+    return found
+
+
 def facts_of(control: Control) -> Facts:
     """Asks for all facts: each question takes a second or two."""
     settings = control.settings()
@@ -146,11 +164,13 @@ def facts_of(control: Control) -> Facts:
     return Facts(
         [row["user"] for row in control.rows("list_users", is_of_host=False)],
         {row["user"]: Permissions(row["configure"], row["write"], row["read"]) for row in permissions},
+        topic_permissions_of(control.rows("list_topic_permissions")),
         {row["user"]: limits_of(row["limits"]) for row in limits},
         limits_of_host(control.rows("list_vhost_limits")),
         policies_of(control.rows("list_policies")),
         policies_of(control.rows("list_operator_policies")),
         {row["name"]: arguments_of(row["arguments"]) for row in control.rows("list_queues", "name", "arguments")},
+        {row["name"]: row["type"] for row in control.rows("list_exchanges", "name", "type")},
         bindings_of(control.rows("list_bindings", "source_name", "destination_name", "routing_key")),
         settings["max_message_size"],
         settings["verifies"],

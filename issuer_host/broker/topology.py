@@ -1,6 +1,6 @@
 """What there is at the broker: the exchanges, the queues and their limits.
 
-Requests go by a direct exchange to the quorum queue of the card's partition. Answers go by a direct exchange of their
+Requests go by a direct exchange to the quorum queue of the card's partition. Answers go by a topic exchange of their
 own, so that no message can aim an answer at a queue that isn't a reply queue.
 """
 from typing import Any, Optional
@@ -12,6 +12,8 @@ from issuer_host.broker.types import Channel, Step
 from issuer_host.facts.limits import MAX_MESSAGE_BYTES
 
 REQUESTS, REPLIES, DEAD = "issuer.requests", "issuer.replies", "issuer.dead"
+# Of a topic exchange the broker checks by which names a user may bind: a publisher reads its own answers alone.
+REPLIES_TYPE = "topic"
 # By this exchange nodes write to the streams of partitions: no publisher may.
 RECORDS = "issuer.records"
 STREAM_ENDING = ".records"
@@ -91,7 +93,7 @@ def declare_exchanges(channel: Channel) -> list[Step]:
     """Steps that declare the exchanges, and the queue of what the bridge refuses."""
     return [
         lambda then: channel.exchange_declare(REQUESTS, "direct", durable=True, callback=then),
-        lambda then: channel.exchange_declare(REPLIES, "direct", durable=True, callback=then),
+        lambda then: channel.exchange_declare(REPLIES, REPLIES_TYPE, durable=True, callback=then),
         lambda then: channel.exchange_declare(DEAD, "fanout", durable=True, callback=then),
         lambda then: channel.queue_declare(DEAD, durable=True, arguments=DEAD_ARGUMENTS, callback=then),
         lambda then: channel.queue_bind(DEAD, DEAD, callback=then),

@@ -1,6 +1,6 @@
 """Declares the exchanges and the quorum queues of all partitions at the broker, or says what the broker lacks.
 
-usage: queues --partitions P [--streams] [--stream-bytes N] [--broker-file FILE]
+usage: queues --partitions P [--streams] [--stream-bytes N] [--replies-anew] [--broker-file FILE]
        queues --check --partitions P [--streams] [--broker-file FILE] [--operator USER] [--bridge USER] [--vhost NAME]
               [--control COMMAND]
 
@@ -10,6 +10,9 @@ again.
 
 --streams       declares the streams of all partitions too, for nodes on several machines (deploy/node)
 --stream-bytes  what a stream keeps (2,000,000,000): a machine that was away while more was written begins from copies
+
+--replies-anew  deletes the exchange of answers before, which an earlier version declared with another type. Publishers
+                bind their queues again when they connect: end them, and the bridges, before
 
 --check         changes nothing, and asks the broker of this machine by rabbitmqctl, as root. It prints a line for each
             thing that is missing, with the command that mends it: users and what they may do, their limits, policies,
@@ -27,7 +30,7 @@ from typing import Any, NamedTuple, Optional, cast
 import pika
 
 from issuer_host.broker import topology
-from issuer_host.broker.rules import Expected, of_broker_file, what_is_missing
+from issuer_host.broker.rules import ANEW, Expected, of_broker_file, what_is_missing
 from issuer_host.broker.settings import COMMAND, Control, facts_of
 from issuer_host.broker.types import Channel
 from issuer_host.facts.refusal import Refusal, tell
@@ -41,6 +44,7 @@ class QueuesOptions(NamedTuple):
     partitions: int
     streams: bool
     stream_bytes: int
+    replies_anew: bool
     broker_file: Optional[str]
     check: bool
     operator: str
@@ -71,6 +75,7 @@ def options_of(words: Sequence[str]) -> QueuesOptions:
     parser.add_argument("--partitions", type=int, required=True)
     parser.add_argument("--streams", action="store_true")
     parser.add_argument("--stream-bytes", type=int, default=topology.STREAM_BYTES)
+    parser.add_argument("--replies-anew", action="store_true")
     parser.add_argument("--broker-file")
     parser.add_argument("--check", action="store_true")
     parser.add_argument("--operator", default="issuer-operator")
@@ -82,14 +87,22 @@ def options_of(words: Sequence[str]) -> QueuesOptions:
 
 def declare(options: QueuesOptions) -> None:
     connection = pika.BlockingConnection(topology.parameters_of(options.broker_file))
-    channel = cast(Channel, Once(connection.channel()))
+    blocking = connection.channel()
+    if options.replies_anew:
+        blocking.exchange_delete(topology.REPLIES)
+    channel = cast(Channel, Once(blocking))
     steps = topology.declare_exchanges(channel)
     for partition in range(options.partitions):
         steps += topology.declare_partition(channel, partition)
         if options.streams:
             steps += topology.declare_stream(channel, partition, options.stream_bytes)
-    for step in steps:
-        step(lambda _: None)
+    try:
+        for step in steps:
+            step(lambda _: None)
+    except pika.exceptions.ChannelClosedByBroker as fault:
+        if "'type' for exchange" in str(fault):
+            raise Refusal(f"the exchange {topology.REPLIES} is of another type: {ANEW}") from fault
+        raise
     # (the broker writes its list of quorum queues twice a second: killed before, it would bring a queue back without a
     # leader)
     connection.sleep(SAVED_SECONDS)
