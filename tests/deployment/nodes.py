@@ -1,5 +1,6 @@
 """What a node begins with (deploy/node): NODE.json, positions beside journals, and journals that it truncates."""
 import hashlib
+import itertools
 import json
 import os
 from collections.abc import Callable, Iterator, Sequence
@@ -17,7 +18,7 @@ from issuer_host.replication.journal_files import JournalFiles
 from issuer_host.replication.messages import Barrier, LOGS, NOTES, Record
 from issuer_host.replication.notes import Notes, as_note, read_notes, work_of, write_notes
 from issuer_host.replication.record_origins import FedLines, NOWHERE, Origin, RefusedRecord
-from issuer_host.replication.standby_run import END_SECONDS, StandbyRun, TransientFault
+from issuer_host.replication.standby_run import StandbyRun, TransientFault, limits_over
 from runs import PANS, SHARDS, write_bytes, write_text
 
 BARRIER = Barrier(3, "c0ffee", "m1")
@@ -326,22 +327,26 @@ def ends_a_run_of_standby_that_hangs(tally: Tally) -> None:
         faults: "list[Exception]" = []
         loop: Any = NoLoop()
         ends: "list[str]" = []
-        for command in (["/bin/sleep", "600"], ["/bin/cat"]):
-            run = StandbyRun(loop, command, host.name, "node", faults.append)
+        longest = limits_over(host.name).closing
+        for command, is_hanging in ((["/bin/sleep", "600"], True), (["/bin/cat"], False)):
+            now = itertools.count(1.0)
+            run = StandbyRun(loop, command, host.name, "node", faults.append, lambda: next(now))
             run.put(Record(0, 0, "s nothing"), NOWHERE)
             process = run.run.process if run.run else None
             run.end(lambda: ends.append("ended"))
-            if command[0] == "/bin/cat" and run.run is not None:
+            if not is_hanging and run.run is not None:
                 run.run.end()
-            delay, late = loop.later.pop()
-            late()
-            tally.expect(
-                (delay, run.is_running), (END_SECONDS, False), f"when {command} is killed, and whether it runs"
-            )
+            looks = 0
+            while run.is_running and looks < 10 * longest:
+                _, look = loop.later.pop()
+                look()
+                looks += 1
+            tally.holds(not run.is_running and looks <= longest + 2, f"{command} is killed after {looks} looks")
+            tally.expect(looks > 0, is_hanging, f"whether {command} is killed")
             tally.holds(process is not None and process.poll() is not None, f"{command} runs on")
         said = [str(fault) for fault in faults if isinstance(fault, TransientFault)]
         tally.expect((len(faults), len(said), ends), (1, 1, ["ended"]), f"the faults {faults}, and what went on")
-        tally.holds("didn't end in 60 seconds" in said[0], f"what is said: {said}")
+        tally.holds("was killed: it doesn't end" in said[0], f"what is said: {said}")
 
 
 def knows_the_message_of_a_line(tally: Tally) -> None:
