@@ -22,7 +22,7 @@ record-grows shard history one =
     (λ next. prefix-append history (one.text ∷ [])) (λ other. prefix-refl history))
     (λ elsewhere. prefix-refl history)
 
-records-grow : (shard : ℕ) (history : List Text) (records : List Indexed) → IsPrefix history (with_records shard history records)
+pub records-grow : (shard : ℕ) (history : List Text) (records : List Indexed) → IsPrefix history (with_records shard history records)
 records-grow shard history [] = prefix-refl history
 records-grow shard history (one ∷ records) =
     prefix-trans history (with_record shard history one) (with_records shard history (one ∷ records))

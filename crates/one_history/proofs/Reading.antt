@@ -1,15 +1,16 @@
 -- A machine reads the stream's next message.
-use Rattle.std.proofs.Common.{◌≡◌, ℕ, ◌+◌, ◌≤◌, false, List, length, take, ap, sym, ◌∙◌, subst, arith, inl, inr}
+use Rattle.std.proofs.Common.{◌<◌, ◌≡◌, ℕ, ◌+◌, ◌≤◌, false, List, length, take, ap, sym, ◌∙◌, subst, arith, inl, inr}
 use Rattle.std.proofs.lemmas.Bool.{cond_both}
 use Rattle.std.proofs.lemmas.List.Elements.{All-nil}
 use Rattle.one_history.specs.Prefixes.{IsPrefix}
 use Rattle.one_history.specs.Streams.{Text, Word, Barrier, Count, opens, is_barrier, next_count}
 use Rattle.one_history.specs.Machines.{Answer, up_to, Stage, Follows, Begins, Serves, World, count_at, with_machine, next_message}
-use Rattle.one_history.specs.Events.{Successors, IsLegal, IsSettled, CanRead, reads, turned, stage_after}
+use Rattle.one_history.specs.Events.{Successors, IsLegal, IsSettled, count_with_next, CanRead, reads, turned, stage_after}
 use Rattle.one_history.proofs.Words.{barrier-same}
 use Rattle.one_history.proofs.Prefixed.{prefix-trans, prefix-same, prefix-take, prefix-length, prefix-is_take}
 use Rattle.one_history.proofs.Legal.{legal-same}
 use Rattle.one_history.proofs.Counts.{count-next, last-stays}
+use Rattle.one_history.proofs.Moves.{in-service}
 use Rattle.one_history.proofs.Sound.{Logs, IsAtStage, IsSoundMachine, IsSound, sound-machine, sound-legal}
 
 -- a settled journal begins with what counts
@@ -132,3 +133,19 @@ module _ (MayFollow : Successors) (world : World) (logs : Logs) (sound : IsSound
       has shard =
           subst (λ (count : Count). IsPrefix (count.histories shard) (journals shard)) (sym read-is)
           (settled-counts (read.histories shard) ((world.machines name).journals shard) (journals shard) (can.settled shard))
+
+-- a machine that serves and reads a message that is no barrier knows all that counts with it
+pub serving-has : (MayFollow : Successors) (world : World) (logs : Logs) → IsSound MayFollow world logs → (name : Word) (barrier : Barrier)
+    → (world.machines name).stage ≡ Serves barrier → (world.machines name).read < length world.stream
+    → opens (count_at world (world.machines name).read).barrier (next_message world (world.machines name)) ≡ false
+    → (shard : ℕ) → IsPrefix ((count_with_next world (world.machines name)).histories shard)
+    (take ((world.machines name).known shard) ((world.machines name).journals shard))
+serving-has MayFollow world logs sound name barrier serves unread other shard =
+    let machine = world.machines name in
+    let facts = in-service (count_at world) world.made logs name machine machine.stage barrier serves (sound.machines name).stage in
+    let read : count_at world (machine.read + 1) ≡ count_with_next world machine = count-next world.base world.stream machine.read unread in
+    let same : (count_with_next world machine).barrier ≡ barrier =
+    last-stays (count_at world machine.read).barrier (next_message world machine) other ∙ facts.last in
+    subst (IsPrefix ((count_with_next world machine).histories shard)) (ap (λ (b : Barrier). logs b.name shard) same ∙ facts.log_is shard)
+    (subst (λ (count : Count). IsPrefix (count.histories shard) (logs count.barrier.name shard)) read
+    (sound.logged.logged (machine.read + 1) shard))

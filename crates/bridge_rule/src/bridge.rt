@@ -1,0 +1,139 @@
+//! A partition's bridge on one machine.
+ghost use Rattle.std.specs.Prelude.{◌≡◌, ◌↔◌, ◌<◌, ◌≤◌, ℕ, length, map, All, IsTrue, IfOk};
+ghost use Rattle.bridge_rule.specs.declared.limits.TheConstants.{LOGS, INDEX_END};
+ghost use Rattle.bridge_rule.specs.Bridges.{BridgeState, StandsIn, IsTold, IsFollowing, IsLearning, IsServing, new_bridge};
+ghost use Rattle.bridge_rule.specs.Events.{IsPosition};
+ghost use Rattle.bridge_rule.specs.Logs.{new_log};
+ghost use Rattle.one_history.specs.Events.{KeepsPosition, Crash, next};
+ghost use Rattle.one_history.specs.Machines.{World};
+
+use crate::held::Held;
+use crate::limits::{INDEX_END, LOGS};
+use crate::log::Log;
+use crate::opening::{Name, Opening};
+use crate::role::Role;
+use circular_buffer::HeapCircularBuffer;
+use issuer_base::NoMemory;
+use std::alloc::Global;
+use std::marker::Model;
+
+/// A partition's bridge on one machine: what counts as far as it has read, its role, what it knows of its journals, and
+/// the answers that wait.
+#[derive(Drop)]
+pub struct Bridge {
+    pub(crate) machine: Name,
+    pub(crate) last: Opening,
+    pub(crate) role: Role,
+    pub(crate) logs: Vec<Log>,
+    pub(crate) held: HeapCircularBuffer<Held>,
+}
+
+impl Model for Bridge {
+    ghost use Rattle.std.specs.Prelude.{◌≡◌, ◌<◌, length};
+    ghost use Rattle.bridge_rule.specs.Bridges.{BridgeState};
+    ghost use Rattle.bridge_rule.specs.declared.limits.TheConstants.{LOGS, INDEX_END};
+
+    ghost Value = { BridgeState };
+
+    ghost view = { λ bridge. record {
+      machine = bridge.machine.items;
+      last = bridge.last;
+      role = bridge.role;
+      logs = bridge.logs.items;
+      held = bridge.held.items;
+      room = bridge.held.capacity;
+    } };
+
+    ghost invariant = { λ bridge. (length bridge.logs.items ≡ LOGS) × (bridge.last.number < INDEX_END) };
+}
+
+impl Bridge {
+    /// A bridge of the machine with this name, from a position: the last barrier that counts there, and how many records
+    /// of each shard count. It has room for `room` records of each shard beyond those, and for `waiting` answers. No
+    /// other call allocates.
+    pub fn new(
+        alloc: Global,
+        machine: Name,
+        last: Opening,
+        counts: &[u64],
+        room: usize,
+        waiting: usize,
+    ) -> Result<Bridge, NoMemory>
+        requires logs { length counts.now ≡ LOGS }
+        requires within { All (λ count. count ≤ INDEX_END) counts.now }
+        requires number { last.number < INDEX_END }
+        ensures bridge { IfOk result (λ bridge. bridge ≡ new_bridge machine.items last counts.now room waiting) }
+        ensures start { IfOk result (λ bridge. (world : World) (keep : ℕ → ℕ)
+            → KeepsPosition world (world.machines machine.items) keep → IsPosition world machine.items last counts.now
+            → StandsIn bridge (next world (Crash machine.items keep))) }
+    {
+        let bridge = Bridge::at_position(alloc, machine, last, counts, room, waiting)?;
+        Ok(bridge)
+    }
+
+    /// The bridge of [`Bridge::new`].
+    fn at_position(
+        alloc: Global,
+        machine: Name,
+        last: Opening,
+        counts: &[u64],
+        room: usize,
+        waiting: usize,
+    ) -> Result<Bridge, NoMemory>
+        requires logs { length counts.now ≡ LOGS }
+        requires within { All (λ count. count ≤ INDEX_END) counts.now }
+        requires number { last.number < INDEX_END }
+        ensures { IfOk result (λ bridge. bridge ≡ new_bridge machine.items last counts.now room waiting) }
+    {
+        let logs = new_logs(alloc, counts, room)?;
+        let held = HeapCircularBuffer::with_capacity(alloc, waiting)?;
+        Ok(Bridge {
+            machine,
+            last,
+            role: Role::Untold,
+            logs,
+            held,
+        })
+    }
+
+    /// Whether it was told all of its journals, so that it may read.
+    pub fn is_told(&self) -> bool
+        ensures { IsTrue result ↔ IsTold self.now.role }
+    {
+        !matches!(&self.role, Role::Untold)
+    }
+
+    /// Whether it follows, so that it may be called.
+    pub fn is_following(&self) -> bool
+        ensures { IsTrue result ↔ IsFollowing self.now.role }
+    {
+        matches!(&self.role, Role::Following)
+    }
+
+    /// Whether it learns of its journals: it serves, or wasn't told all of them.
+    pub fn is_learning(&self) -> bool
+        ensures { IsTrue result ↔ IsLearning self.now.role }
+    {
+        matches!(&self.role, Role::Untold | Role::Serving(_))
+    }
+
+    /// Whether it serves.
+    pub fn is_serving(&self) -> bool
+        ensures { IsTrue result ↔ IsServing self.now.role }
+    {
+        matches!(&self.role, Role::Serving(_))
+    }
+}
+
+/// Logs of which so many records count.
+fn new_logs(alloc: Global, counts: &[u64], room: usize) -> Result<Vec<Log>, NoMemory>
+    requires { All (λ count. count ≤ INDEX_END) counts.now }
+    ensures { IfOk result (λ logs. logs.items ≡ map (λ count. new_log count room) counts.now) }
+{
+    let mut logs = Vec::with_capacity(alloc, counts.len())?;
+    for count in counts {
+        let log = Log::new(alloc, *count, room)?;
+        logs.push(log)?;
+    }
+    Ok(logs)
+}
