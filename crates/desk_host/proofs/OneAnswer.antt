@@ -1,5 +1,5 @@
 -- A card's own records leave one answer to what is asked of it.
-use Rattle.std.proofs.Common.{◌≡◌, ◌≢◌, ℕ, true, false, List, map, Contains, get_or, refl, sym, ap, subst, ◌∙◌, Some}
+use Rattle.std.proofs.Common.{◌≡◌, ◌≢◌, ℕ, Bool, true, false, List, map, Contains, get_or, refl, sym, ap, ap₂, subst, ◌∙◌, Some}
 use Rattle.std.proofs.lemmas.Bool.{true≢false}
 use Rattle.std.proofs.lemmas.List.Elements.{All-contains, Contains-get_or}
 use Rattle.std.proofs.lemmas.Option.{same_Some}
@@ -20,16 +20,18 @@ use Rattle.card_history.specs.Turns.{IsTooOld, IsUnused, IsUsed, decided_for}
 use Rattle.card_history.specs.declared.decision.Asked.{Asked}
 use Rattle.card_history.specs.declared.decision.Asked.TheVariants.{Decide, Queue, Status}
 use Rattle.card_history.specs.declared.decision.Decision.{Decision}
-use Rattle.card_history.proofs.CardNames.{has_numbers-other, is_of-names, is_of-other}
-use Rattle.card_history.proofs.RecordPlaces.{decided-recorded}
+use Rattle.card_history.proofs.CardNames.{has_numbers-other, is_of-card_of, is_of-names, is_of-other}
+use Rattle.card_history.proofs.RecordPlaces.{decided-recorded, recorded-decided}
 use Rattle.script_queue.specs.CommandQueue.{CommandQueue, TakesOneMore}
 use Rattle.issuer_setup.specs.IssuerSetup.{Setup}
 use Rattle.shard_book.specs.Answering.{AnswersClaimed, AnswersQueueing, AnswersSetting, is_store_fault}
 use Rattle.shard_book.specs.Grounds.{grounds_of}
+use Rattle.shard_book.specs.Histories.{GoesOn}
 use Rattle.shard_book.specs.Replying.{reply_to}
+use Rattle.host_loading.proofs.Places.{read-front}
 use Rattle.one_caller.specs.Turns.{AnswersAsked, card_asked}
 use Rattle.one_caller.proofs.LegalBooks.{once-in}
-use Rattle.desk_host.specs.Isolation.{own_records, unplaced}
+use Rattle.desk_host.specs.Isolation.{IsUndecided, is_pending, own_records, unplaced}
 use Rattle.desk_host.proofs.OwnRecords.{core, contains-same, decided-same, greatest-same, other-added, reply-same, scripts-same}
 
 -- ---- requests
@@ -50,18 +52,21 @@ IsTold decisions new request (Refused (Taken at place)) =
     (decision : Decision) × IsUsed decisions request decision × (decision.request ≢ request)
 IsTold decisions new request _ = ⊥
 
-claimed-told : (shard : ℕ) (replies : List Entry → Request → Reply) (before : List Entry) (request : Request) (answer : Answer) (after : List Entry)
-    → is_store_fault answer ≡ false → AnswersClaimed shard replies true before request answer after
+-- a claim that was lost may leave the answer pending
+claimed-told : (shard : ℕ) (replies : List Entry → Request → Reply) (won : Bool) (before : List Entry) (request : Request)
+    (answer : Answer) (after : List Entry) → is_store_fault answer ≡ false → (won ≡ false → is_pending answer ≡ false)
+    → AnswersClaimed shard replies won before request answer after
     → IsTold (decided_for request before) (replies before request) request answer
-claimed-told shard replies before request (Fresh at place reply) after fine (won, (unused, at_is, place_is, reply_is, after_is)) = (unused, reply_is)
-claimed-told shard replies before request (Kept at place reply) after fine (used, at_is, after_is) =
+claimed-told shard replies won before request (Fresh at place reply) after fine held (its, (unused, at_is, place_is, reply_is, after_is)) =
+    (unused, reply_is)
+claimed-told shard replies won before request (Kept at place reply) after fine held (used, at_is, after_is) =
     (record { request = request; reply = reply; place = place }, used, refl, refl)
-claimed-told shard replies before request (Refused (Below top)) after fine (too_old, after_is) = too_old
-claimed-told shard replies before request (Refused (Taken at place)) after fine ((decision, used, place_is, other), at_is, after_is) =
+claimed-told shard replies won before request (Refused (Below top)) after fine held (too_old, after_is) = too_old
+claimed-told shard replies won before request (Refused (Taken at place)) after fine held ((decision, used, place_is, other), at_is, after_is) =
     (decision, used, other)
-claimed-told shard replies before request (Refused Pending) after fine (lost, unused, after_is) = absurd (true≢false lost)
-claimed-told shard replies before request (Refused StoreFault) after fine turn = absurd (true≢false fine)
-claimed-told shard replies before request _ after fine turn = absurd turn
+claimed-told shard replies won before request (Refused Pending) after fine held (lost, unused, after_is) = absurd (true≢false (held lost))
+claimed-told shard replies won before request (Refused StoreFault) after fine held turn = absurd (true≢false fine)
+claimed-told shard replies won before request _ after fine held turn = absurd turn
 
 module _ (decisions : List Decision) (request : Request) where
   pub unused-used : (decision : Decision) → IsUnused decisions request → IsUsed decisions request decision → ⊥
@@ -208,16 +213,25 @@ setting-set shard before card status _ after fine turn = absurd turn
 
 module _ (issuer : Setup) (shard other_shard : ℕ) (one other one_after other_after : List Entry) (answer other_answer : Answer)
     (fine : is_store_fault answer ≡ false) (other_fine : is_store_fault other_answer ≡ false) where
-  pub answer-same : (asked : Asked) → own_records (card_asked asked) one ≡ own_records (card_asked asked) other
-      → IsLegalHistory (grounds_of issuer) shard one → AnswersAsked issuer asked answer shard one one_after
-      → AnswersAsked issuer asked other_answer other_shard other other_after → unplaced answer ≡ unplaced other_answer
-  answer-same (Decide request) same legal turn other_turn =
-      let told = claimed-told shard (reply_to issuer) one request answer one_after fine turn in
-      let other_told = claimed-told other_shard (reply_to issuer) other request other_answer other_after other_fine other_turn in
+  pub request-same : (request : Request) (won other_won : Bool) → (won ≡ false → is_pending answer ≡ false)
+      → (other_won ≡ false → is_pending other_answer ≡ false)
+      → own_records (card_of request) one ≡ own_records (card_of request) other
+      → IsLegalHistory (grounds_of issuer) shard one → AnswersClaimed shard (reply_to issuer) won one request answer one_after
+      → AnswersClaimed other_shard (reply_to issuer) other_won other request other_answer other_after
+      → unplaced answer ≡ unplaced other_answer
+  request-same request won other_won held other_held same legal turn other_turn =
+      let told = claimed-told shard (reply_to issuer) won one request answer one_after fine held turn in
+      let other_told = claimed-told other_shard (reply_to issuer) other_won other request other_answer other_after other_fine other_held other_turn in
       let moved = told-move (card_of request) (decided_for request one) (decided_for request other)
       (decided-same (card_of request) other one (sym same)) request (reply_to issuer other request) other_answer other_told in
       told-one (decided_for request one) request (legal-once issuer shard one request legal) (reply_to issuer one request) answer other_answer told
       (subst (λ (reply : Reply). IsTold (decided_for request one) reply request other_answer) (reply-same issuer request other one (sym same)) moved)
+
+  pub answer-same : (asked : Asked) → own_records (card_asked asked) one ≡ own_records (card_asked asked) other
+      → IsLegalHistory (grounds_of issuer) shard one → AnswersAsked issuer asked answer shard one one_after
+      → AnswersAsked issuer asked other_answer other_shard other other_after → unplaced answer ≡ unplaced other_answer
+  answer-same (Decide request) same legal turn other_turn =
+      request-same request true true (λ lost. absurd (true≢false lost)) (λ lost. absurd (true≢false lost)) same legal turn other_turn
   answer-same (Queue pan psn command) same legal turn other_turn =
       queue-one (waiting (scripts_of (named pan psn) one)) answer other_answer
       (queueing-told shard one (named pan psn) command answer one_after fine turn)
@@ -227,22 +241,105 @@ module _ (issuer : Setup) (shard other_shard : ℕ) (one other one_after other_a
       setting-set shard one (named pan psn) status answer one_after fine turn
       ∙ sym (setting-set other_shard other (named pan psn) status other_answer other_after other_fine other_turn)
 
+-- ---- a repeat
+
+-- a decision of a history stays at its index as the history is extended
+stays-at : (first last : List Entry) (place : ℕ) (entry : Entry) → GoesOn first last → slice_get first place ≡ Some entry
+    → slice_get last place ≡ Some entry
+stays-at first last place entry more is =
+    subst (λ (history : List Entry). slice_get history place ≡ Some entry) (sym more.1) (read-front first more.0 place entry is)
+
+module _ (issuer : Setup) (shard place : ℕ) (old first history after : List Entry) (request : Request) (reply : Reply) (won : Bool)
+    (migrated : GoesOn old first) (goes_on : GoesOn first history) (legal : IsLegalHistory (grounds_of issuer) shard history)
+    (is : slice_get old place ≡ Some (Decided request reply))
+    (within : IsBelow (greatest_atc (decided_for request history)) request.atc → ⊥) where
+  at-place : slice_get history place ≡ Some (Decided request reply)
+  at-place = stays-at first history place _ goes_on (stays-at old first place _ migrated is)
+
+  abbrev the_record : Decision
+  the_record = record { request = request; reply = reply; place = place }
+
+  is-used : IsUsed (decided_for request history) request the_record
+  is-used = record {
+    in_window = within;
+    recorded = recorded-decided (card_of request) history place request reply at-place (is_of-card_of request);
+    same_counter = refl;
+  }
+
+  pub repeat-kept : (answer : Answer) → AnswersClaimed shard (reply_to issuer) won history request answer after
+      → answer ≡ Kept shard place reply
+  repeat-kept (Fresh at index other) (claim, (unused, at_is, place_is, reply_is, after_is)) =
+      absurd (unused-used (decided_for request history) request the_record unused is-used)
+  repeat-kept (Kept at index other) (used_too, at_is, after_is) =
+      let same = used-one (decided_for request history) request (legal-once issuer shard history request legal)
+      (record { request = request; reply = other; place = index }) the_record used_too is-used in
+      let kept = decided-recorded (card_of request) history (record { request = request; reply = other; place = index })
+      used_too.recorded in
+      let index_is : index ≡ place = once-in issuer shard history legal index place request request other reply kept.0 at-place refl refl in
+      ap₂ (λ (s i : ℕ). Kept s i other) at_is index_is ∙ ap (Kept shard place) same.1
+  repeat-kept (Refused (Below top)) (old_atc, after_is) =
+      absurd (old-in_window (decided_for request history) request top old_atc within)
+  repeat-kept (Refused (Taken at index)) ((decision, used_too, place_is, apart), at_is, after_is) =
+      absurd (apart (used-one (decided_for request history) request (legal-once issuer shard history request legal) decision
+      the_record used_too is-used).0)
+  repeat-kept (Refused Pending) (lost, unused, after_is) = absurd (unused-used (decided_for request history) request the_record unused is-used)
+  repeat-kept (Refused StoreFault) (claim, unused, after_is) =
+      absurd (unused-used (decided_for request history) request the_record unused is-used)
+  repeat-kept _ turn = absurd turn
+
+-- ---- an ATC that no record decides
+
+claimed-unused : (shard : ℕ) (replies : List Entry → Request → Reply) (won : Bool) (before : List Entry) (request : Request)
+    (answer : Answer) (after : List Entry) → IsUndecided answer → AnswersClaimed shard replies won before request answer after
+    → IsUnused (decided_for request before) request
+claimed-unused shard replies won before request (Fresh at place reply) after is (its, (unused, at_is, place_is, reply_is, after_is)) = unused
+claimed-unused shard replies won before request (Refused Pending) after is (lost, unused, after_is) = unused
+claimed-unused shard replies won before request (Refused StoreFault) after is (its, unused, after_is) = unused
+claimed-unused shard replies won before request _ after is turn = absurd is
+
+unused-undecided : (shard : ℕ) (replies : List Entry → Request → Reply) (won : Bool) (before : List Entry) (request : Request)
+    (answer : Answer) (after : List Entry) → IsUnused (decided_for request before) request
+    → AnswersClaimed shard replies won before request answer after → IsUndecided answer
+unused-undecided shard replies won before request (Fresh at place reply) after unused turn = tt
+unused-undecided shard replies won before request (Refused Pending) after unused turn = tt
+unused-undecided shard replies won before request (Refused StoreFault) after unused turn = tt
+unused-undecided shard replies won before request (Kept at place reply) after unused (used, at_is, after_is) =
+    absurd (unused-used (decided_for request before) request (record { request = request; reply = reply; place = place }) unused used)
+unused-undecided shard replies won before request (Refused (Below top)) after unused (old, after_is) =
+    absurd (old-in_window (decided_for request before) request top old unused.in_window)
+unused-undecided shard replies won before request (Refused (Taken at place)) after unused ((decision, used, place_is, other), at_is, after_is) =
+    absurd (unused-used (decided_for request before) request decision unused used)
+unused-undecided shard replies won before request _ after unused turn = absurd turn
+
+pub undecided-same : (issuer : Setup) (request : Request) (shard other_shard : ℕ) (won other_won : Bool)
+    (one other one_after other_after : List Entry) (answer other_answer : Answer)
+    → own_records (card_of request) one ≡ own_records (card_of request) other
+    → AnswersClaimed shard (reply_to issuer) won one request answer one_after
+    → AnswersClaimed other_shard (reply_to issuer) other_won other request other_answer other_after
+    → IsUndecided answer → IsUndecided other_answer
+undecided-same issuer request shard other_shard won other_won one other one_after other_after answer other_answer same turn other_turn is =
+    unused-undecided other_shard (reply_to issuer) other_won other request other_answer other_after
+    (unused-move (card_of request) (decided_for request other) (decided_for request one)
+    (decided-same (card_of request) one other same) request
+    (claimed-unused shard (reply_to issuer) won one request answer one_after is turn)) other_turn
+
 -- ---- the records of other cards
 
 module _ (card : CardName) (shard : ℕ) (before after : List Entry) where
   stays : after ≡ before → own_records card after ≡ own_records card before
   stays same = ap (own_records card) same
 
-  claimed-stays : (replies : List Entry → Request → Reply) (request : Request) (answer : Answer) → card ≢ card_of request
-      → AnswersClaimed shard replies true before request answer after → own_records card after ≡ own_records card before
-  claimed-stays replies request (Fresh at place reply) apart (won, (unused, at_is, place_is, reply_is, after_is)) =
+  pub claimed-stays : (replies : List Entry → Request → Reply) (won : Bool) (request : Request) (answer : Answer)
+      → card ≢ card_of request → AnswersClaimed shard replies won before request answer after
+      → own_records card after ≡ own_records card before
+  claimed-stays replies won request (Fresh at place reply) apart (its, (unused, at_is, place_is, reply_is, after_is)) =
       ap (own_records card) after_is ∙ other-added card before (Decided request reply) (is_of-other card request apart)
-  claimed-stays replies request (Kept at place reply) apart (used, at_is, after_is) = stays after_is
-  claimed-stays replies request (Refused (Below top)) apart (old, after_is) = stays after_is
-  claimed-stays replies request (Refused (Taken at place)) apart (taken, at_is, after_is) = stays after_is
-  claimed-stays replies request (Refused Pending) apart (lost, unused, after_is) = stays after_is
-  claimed-stays replies request (Refused StoreFault) apart (won, unused, after_is) = stays after_is
-  claimed-stays replies request _ apart turn = absurd turn
+  claimed-stays replies won request (Kept at place reply) apart (used, at_is, after_is) = stays after_is
+  claimed-stays replies won request (Refused (Below top)) apart (old, after_is) = stays after_is
+  claimed-stays replies won request (Refused (Taken at place)) apart (taken, at_is, after_is) = stays after_is
+  claimed-stays replies won request (Refused Pending) apart (lost, unused, after_is) = stays after_is
+  claimed-stays replies won request (Refused StoreFault) apart (its, unused, after_is) = stays after_is
+  claimed-stays replies won request _ apart turn = absurd turn
 
   queueing-stays : (pan : List ℕ) (psn : ℕ) (command : Command) (answer : Answer) → card ≢ named pan psn
       → AnswersQueueing shard before (named pan psn) command answer after → own_records card after ≡ own_records card before
@@ -261,6 +358,6 @@ module _ (card : CardName) (shard : ℕ) (before after : List Entry) where
 
   pub others-stay : (issuer : Setup) (asked : Asked) (answer : Answer) → card ≢ card_asked asked
       → AnswersAsked issuer asked answer shard before after → own_records card after ≡ own_records card before
-  others-stay issuer (Decide request) answer apart turn = claimed-stays (reply_to issuer) request answer apart turn
+  others-stay issuer (Decide request) answer apart turn = claimed-stays (reply_to issuer) true request answer apart turn
   others-stay issuer (Queue pan psn command) answer apart turn = queueing-stays pan psn command answer apart turn
   others-stay issuer (Status pan psn status) answer apart turn = setting-stays pan psn status answer apart turn
