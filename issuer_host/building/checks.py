@@ -15,7 +15,6 @@ WITHOUT_PROGRAM = (
     "tests/sources/crates",
     "tests/sources/unused",
     "tests/sources/library_calls",
-    "tests/sources/sinks",
     "tests/pages/field_definitions",
     "tests/pages/figures",
     "tests/program/make_vectors --check",

@@ -11,9 +11,11 @@ use Rattle.one_caller.specs.declared.solo.Solo.{Solo}
 use Rattle.host_loading.specs.Books.{ShardBook}
 use Rattle.one_caller.specs.Runs.{HasRun}
 use Rattle.shared_callers.specs.declared.lanes.Lanes.{Lanes}
+use Rattle.line_blocks.specs.declared.block.Block.{Block}
 use Rattle.line_blocks.specs.declared.block.TheConstants.{BLOCK_LINES}
 use Rattle.line_reader.specs.Reading.{unread}
 use Rattle.line_serving.specs.Durable.{IsRecordedText}
+use Rattle.line_serving.specs.Idle.{MayReadOn}
 use Rattle.line_serving.specs.declared.serve.Server.{Server}
 use Rattle.line_serving.specs.declared.alone.AloneHost.{AloneHost}
 use Rattle.line_serving.specs.declared.hosts.LineHost.{LineHost}
@@ -133,6 +135,11 @@ module _ {S : Type 0} {G : Ghosts S} where
     pub may_settle : MaySettle host lines []
     pub settled : IsSettled host
 
+  -- no line waits, and no answer is due, nor one of its block
+  pub record OwesNoAnswer (host : LineHost S G) (block : Block) : Type 0 where
+    pub idle : IsIdle host block.lines
+    pub none_due : block.text.items ≡ []
+
   -- it has so many callers, has answered no line, and is idle
   pub record IsFresh (callers : ℕ) (host : LineHost S G) : Type 0 where
     pub callers_are : callers_of host ≡ callers
@@ -140,6 +147,10 @@ module _ {S : Type 0} {G : Ghosts S} where
     pub idle : IsIdle host 0
 
 -- ---- the server
+
+-- it may ask for the next line: that is whole in memory, or no line waits and no answer is due
+abbrev pub MayServeOn : {S : Type 0} {G : Ghosts S} → LineHost S G → Server → Type 0
+MayServeOn host server = MayReadOn server.reader (OwesNoAnswer host server.block)
 
 -- a server that has read nothing and owes no answer
 pub record IsNew (server : Server) : Type 0 where

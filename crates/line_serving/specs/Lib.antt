@@ -1,4 +1,5 @@
 -- The hosts that lines are served with, and what serving does.
+pub mod Idle
 pub mod Durable
 pub mod Hosts
 pub mod Leaving

@@ -1,7 +1,6 @@
 //! Lines that one caller answers: a line alone at once, and others once they were checked together.
 ghost use Rattle.std.specs.Prelude.{◌≡◌, ◌+◌, ◌<◌, ◌≤◌, ℕ, List, [], ◌∷◌, ◌++◌, length, map, false, is_err};
 ghost use Rattle.issuer_base.specs.OutsideFaults.{CountsFaults};
-ghost use Rattle.issuer_base.specs.Sink.{WritesAll};
 ghost use Rattle.issuer_setup.specs.IssuerSetup.{Setup};
 ghost use Rattle.line_checks.specs.LookedUp.{AreLookUps};
 ghost use Rattle.line_checks.specs.declared.lines_ahead.TheConstants.{MOST_AHEAD};
@@ -11,8 +10,9 @@ ghost use Rattle.desk_host.specs.Configuration.{HasSoundParts};
 ghost use Rattle.desk_host.specs.Journals.{IsReadySolo};
 ghost use Rattle.desk_host.specs.SeenStores.{Logged, journals_seen};
 
+use crate::answer_block::AnswerBlock;
 use issuer_base::{Gate, Sink, Store, WriteFault};
-use line_blocks::{Block, FULL_LINES};
+use line_blocks::FULL_LINES;
 use line_checks::LinesAhead;
 use one_caller::Solo;
 use std::sync::Wait;
@@ -33,7 +33,7 @@ impl<S: Store> AloneHost<S> {
     ghost use Rattle.line_serving.specs.Leaving.{LeavesAnswered, LeavesLoaded};
     ghost use Rattle.line_serving.specs.Hosts.{HasAnswered};
     ghost use Rattle.line_serving.specs.Hosts.{MaySettleAlone, TakesMoreAlone};
-    ghost use Rattle.line_serving.specs.Durable.{IsDurableText, IsRecordedText};
+    ghost use Rattle.line_serving.specs.Durable.{IsRecordedText};
 
     /// This host. No line waits.
     pub(crate) fn new(host: Solo<S>, ahead: LinesAhead) -> Self
@@ -48,7 +48,7 @@ impl<S: Store> AloneHost<S> {
     }
 
     /// Whether the block is full once the lines that wait are answered.
-    pub(crate) fn is_full(&self, block: &Block) -> bool
+    pub(crate) fn is_full(&self, block: &AnswerBlock) -> bool
         requires { MaySettleAlone self.now block.now.lines block.now.text.items }
         ensures { result ≡ false → TakesMoreAlone self.now block.now.lines block.now.text.items }
     {
@@ -64,7 +64,7 @@ impl<S: Store> AloneHost<S> {
         number: u64,
         line: &[u8],
         has_next: bool,
-        block: &mut Block,
+        block: &mut AnswerBlock,
     )
         requires { TakesMoreAlone self.old block.old.lines block.old.text.items }
         ensures taken { (first : Solo S S.Store) (lines : List (List ℕ)) (text : List ℕ) (waiting : List (List ℕ))
@@ -91,7 +91,7 @@ impl<S: Store> AloneHost<S> {
         gate: &G,
         number: u64,
         line: &[u8],
-        block: &mut Block,
+        block: &mut AnswerBlock,
     )
         requires room { block.old.lines < BLOCK_LINES }
         requires none { self.old.ahead ≡ [] }
@@ -134,7 +134,7 @@ impl<S: Store> AloneHost<S> {
     /// Answers all lines that wait, once their cryptograms were checked, together if they are many. The answers go into
     /// the block. The gate is called with each line's number, before the line is answered and after it. Where no line
     /// waits, nothing is done.
-    pub(crate) fn settle<R: Wait, G: Gate>(&mut self, rt: &R, gate: &G, block: &mut Block)
+    pub(crate) fn settle<R: Wait, G: Gate>(&mut self, rt: &R, gate: &G, block: &mut AnswerBlock)
         requires room { block.old.lines + length self.old.ahead ≤ BLOCK_LINES }
         requires looked_up { (lines : List (List ℕ)) × AreLookUps self.old.host.issuer lines self.old.ahead }
         requires recorded { IsRecordedText self.old.host block.old.text.items }
@@ -155,7 +155,7 @@ impl<S: Store> AloneHost<S> {
     /// Answers all lines that wait, once their cryptograms were checked, together if they are many. The answers go into
     /// the block. The gate is called with each line's number, before the line is answered and after it.
     #[inline(never)]
-    fn settle_waiting<R: Wait, G: Gate>(&mut self, rt: &R, gate: &G, block: &mut Block)
+    fn settle_waiting<R: Wait, G: Gate>(&mut self, rt: &R, gate: &G, block: &mut AnswerBlock)
         requires room { block.old.lines + length self.old.ahead ≤ BLOCK_LINES }
         requires looked_up { (lines : List (List ℕ)) × AreLookUps self.old.host.issuer lines self.old.ahead }
         requires recorded { IsRecordedText self.old.host block.old.text.items }
@@ -184,7 +184,7 @@ impl<S: Store> AloneHost<S> {
         &mut self,
         rt: &R,
         gate: &G,
-        block: &mut Block,
+        block: &mut AnswerBlock,
         out: &mut W,
     ) -> Result<(), WriteFault>
         requires { MaySettleAlone self.old block.old.lines block.old.text.items }
@@ -198,17 +198,7 @@ impl<S: Store> AloneHost<S> {
         ensures count { CountsFaults (W.faults out.old) (W.faults out.new) (is_err result) }
     {
         self.settle(rt, gate, block);
-        self.write_durable(block, out)
-    }
-
-    /// Writes all answers of the block. The record of each is durable before, in the store of its shard.
-    fn write_durable<W: Sink>(&self, block: &mut Block, out: &mut W) -> Result<(), WriteFault>
-        requires durable { IsDurableText self.now.host block.old.text.items }
-        ensures written { WritesAll (W.held out.old) (W.held out.new) result block.old.text.items }
-        ensures none { (block.new.text.items ≡ []) × (block.new.lines ≡ 0) }
-        ensures count { CountsFaults (W.faults out.old) (W.faults out.new) (is_err result) }
-    {
-        block.write(out)
+        block.write_durable(&self.host, out)
     }
 
     /// The stores of the host's journals, in the order of their shards.

@@ -1,12 +1,14 @@
 //! The lines of a feed, checked together and taken one after another, and how many records each shard has, written at the
 //! end.
-ghost use Rattle.std.specs.Prelude.{◌≡◌, ◌<◌, ℕ, List, [], ◌∷◌, ◌++◌, length, true, false, IsTrue, is_err, IfOk};
+ghost use Rattle.std.specs.Prelude.{◌≡◌, ◌<◌, ℕ, List, [], ◌∷◌, ◌++◌, length, true, false, IsTrue, is_err, IfOk, OnOk};
 ghost use Rattle.issuer_base.specs.OutsideFaults.{Rose, CountsFaults};
 ghost use Rattle.issuer_base.specs.Sink.{WritesAll};
 ghost use Rattle.issuer_base.specs.declared.entry.Entry.{Entry};
 ghost use Rattle.line_checks.specs.declared.lines_ahead.TheConstants.{MOST_AHEAD};
 ghost use Rattle.line_reader.specs.Lines.{IsUnbroken};
+ghost use Rattle.line_reader.specs.NextLine.{is_fault};
 ghost use Rattle.host_loading.specs.Hosts.{AreShards};
+ghost use Rattle.standby_node.specs.ReadLines.{IsNoneAhead};
 ghost use Rattle.standby_node.specs.Standing.{HasTaken, Hold, KeepsNode, KeepsShards, LeavesBetween, live_in, shards_in};
 ghost use Rattle.line_serving.specs.Following.{ended_by, stopped_by};
 
@@ -60,6 +62,7 @@ pub struct Follower {
 
 impl Follower {
     ghost use Rattle.line_serving.specs.Following.{FollowsFeed, HasLines, IsNew, MayRead, MayWait, ReadsOn};
+    ghost use Rattle.line_serving.specs.Idle.{IsInHand, MayReadOn, ReadsNext};
     ghost use Rattle.line_serving.specs.Following.{WritesCounts, counts_text, fault_of, read_failed, write_failed};
 
     /// All the memory that taking a feed takes.
@@ -126,7 +129,7 @@ impl Follower {
         ensures block { self.new.block ≡ self.old.block }
     {
         loop {
-            match self.reader.next_line(source) {
+            match Follower::read_on(&mut self.reader, &self.ahead, source) {
                 NextLine::Line => match self.take_line(issuer, node) {
                     Ok(()) => {}
                     Err(fault) => return stopped(fault),
@@ -148,6 +151,16 @@ impl Follower {
         }
     }
 
+    /// Reads the next line. Only this call reads the feed. If no whole line is in memory, it waits for more of the feed:
+    /// then no line waits, so the record of each line that was read is durable.
+    fn read_on<I: Source>(reader: &mut LineReader, ahead: &FeedLines, source: &mut I) -> NextLine
+        requires idle { MayReadOn reader.old (IsNoneAhead ahead.now) }
+        ensures found { ReadsNext result (I.left source.old) (I.left source.new) reader.old reader.new }
+        ensures count { CountsFaults (I.faults source.old) (I.faults source.new) (is_fault result) }
+    {
+        reader.next_line(source)
+    }
+
     /// Reads the line in hand ahead. All lines that wait are taken, once they are as many as are checked together, and
     /// before more of the input is waited for.
     fn take_line<S: Store>(
@@ -164,6 +177,7 @@ impl Follower {
             × LeavesBetween issuer.now histories after (shards_in node.old) (shards_in node.new) }
         ensures kept { KeepsNode issuer.now node.old result node.new }
         ensures room { MayWait issuer.now self.new.ahead }
+        ensures idle { OnOk result (MayReadOn self.new.reader (IsNoneAhead self.new.ahead)) }
         ensures same { (self.new.reader ≡ self.old.reader) × (self.new.block ≡ self.old.block) }
     {
         node.read_ahead(issuer, self.reader.line(), &mut self.ahead);
@@ -177,7 +191,8 @@ impl Follower {
     /// Whether the lines that wait are to be taken before more is read: no other line may wait, or no whole line is in
     /// hand.
     fn is_due(&self) -> bool
-        ensures { result ≡ false → length self.now.ahead.lines.items < MOST_AHEAD }
+        ensures room { result ≡ false → length self.now.ahead.lines.items < MOST_AHEAD }
+        ensures in_hand { result ≡ false → IsInHand self.now.reader }
     {
         self.ahead.is_full() || !self.reader.has_line()
     }

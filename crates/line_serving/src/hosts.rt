@@ -9,9 +9,9 @@ ghost use Rattle.desk_host.specs.Configuration.{HasSoundParts};
 ghost use Rattle.desk_host.specs.SeenStores.{Logged, journals_seen};
 
 use crate::alone::AloneHost;
+use crate::answer_block::AnswerBlock;
 use crate::together::{close_together, write_last_together, write_together};
 use issuer_base::{Gate, Sink, Store, WriteFault};
-use line_blocks::Block;
 use line_reader::{BUFFER_BYTES, LineReader};
 use shared_callers::Lanes;
 use std::sync::Wait;
@@ -46,7 +46,7 @@ impl<S: Store> LineHost<S> {
     }
 
     /// Whether no other line is taken before the lines that wait are settled and the answers of the block are written.
-    pub(crate) fn is_full(&self, block: &Block) -> bool
+    pub(crate) fn is_full(&self, block: &AnswerBlock) -> bool
         requires { MaySettle self.now block.now.lines block.now.text.items }
         ensures { result ≡ false → HasRoom self.now block.now.lines block.now.text.items }
     {
@@ -65,7 +65,7 @@ impl<S: Store> LineHost<S> {
         number: u64,
         line: &[u8],
         has_next: bool,
-        block: &mut Block,
+        block: &mut AnswerBlock,
     )
         requires room { HasRoom self.old block.old.lines block.old.text.items }
         requires kept { length line.now ≤ KEPT_BYTES }
@@ -89,7 +89,7 @@ impl<S: Store> LineHost<S> {
         rt: &R,
         gate: &G,
         reader: &mut LineReader,
-        block: &mut Block,
+        block: &mut AnswerBlock,
         out: &mut W,
     ) -> Result<(), WriteFault>
     where
@@ -119,7 +119,7 @@ impl<S: Store> LineHost<S> {
         &mut self,
         rt: &R,
         gate: &G,
-        block: &mut Block,
+        block: &mut AnswerBlock,
         out: &mut W,
     ) -> Result<(), WriteFault>
     where

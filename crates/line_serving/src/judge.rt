@@ -3,6 +3,7 @@ ghost use Rattle.std.specs.Prelude.{◌≡◌, ℕ, ◌+◌, ◌<◌, ◌≤◌,
 ghost use Rattle.issuer_base.specs.OutsideFaults.{Rose, CountsFaults};
 ghost use Rattle.issuer_base.specs.Sink.{WritesAll};
 ghost use Rattle.line_reader.specs.Reading.{kept};
+ghost use Rattle.line_reader.specs.NextLine.{is_fault};
 ghost use Rattle.line_blocks.specs.declared.block.TheConstants.{BLOCK_LINES};
 ghost use Rattle.line_blocks.specs.Serving.{Finishes, Serves, TakesLine, WritesDue, read_failed, write_failed};
 ghost use Rattle.clearing_check.specs.declared.filed.Filed.{Filed};
@@ -32,6 +33,7 @@ pub struct Judge {
 }
 
 impl Judge {
+    ghost use Rattle.line_serving.specs.Idle.{IsInHand, MayReadOn, ReadsNext};
     ghost use Rattle.line_serving.specs.Clearing.{Clears, HasJudged, IsNew, MaySettle, Puts, TakesMore};
 
     /// All the memory that a clearing check takes beside its book.
@@ -87,7 +89,7 @@ impl Judge {
         ensures sink_count { CountsFaults (W.faults out.old) (W.faults out.new) (write_failed result) }
     {
         loop {
-            match self.reader.next_line(source) {
+            match Judge::read_on(&mut self.reader, &self.block, &self.ahead, source) {
                 NextLine::Line => {
                     self.take_line(issuer, book);
                     match self.write_due(issuer, book, out) {
@@ -107,6 +109,21 @@ impl Judge {
                 }
             }
         }
+    }
+
+    /// Reads the next line. Only this call reads the clearing file. If no whole line is in memory, it waits for more of the
+    /// file: then no line waits to be judged, and no verdict is due.
+    fn read_on<I: Source>(
+        reader: &mut LineReader,
+        block: &Block,
+        ahead: &PresentedAhead,
+        source: &mut I,
+    ) -> NextLine
+        requires idle { MayReadOn reader.old ((ahead.now ≡ none_ahead) × (block.now.text.items ≡ [])) }
+        ensures found { ReadsNext result (I.left source.old) (I.left source.new) reader.old reader.new }
+        ensures count { CountsFaults (I.faults source.old) (I.faults source.new) (is_fault result) }
+    {
+        reader.next_line(source)
     }
 
     /// Looks up the line in hand, which waits until as many lines wait as are checked together.
@@ -160,6 +177,8 @@ impl Judge {
             lines text waiting self.old.block.text.items self.new.block.text.items self.old.reader self.new.reader
             (W.held out.old) (W.held out.new) result }
         ensures room { OnOk result (TakesMore issuer.now self.new) }
+        ensures idle { OnOk result (MayReadOn self.new.reader
+            ((self.new.ahead ≡ none_ahead) × (self.new.block.text.items ≡ []))) }
         ensures reader { self.new.reader ≡ self.old.reader }
         ensures count { CountsFaults (W.faults out.old) (W.faults out.new) (is_err result) }
     {
@@ -174,7 +193,8 @@ impl Judge {
     /// Whether verdicts are to be written before more is read: no other line fits the block, or no whole line is in hand.
     fn is_due(&self) -> bool
         requires { self.now.block.lines + length self.now.ahead.found ≤ BLOCK_LINES }
-        ensures { result ≡ false → self.now.block.lines + length self.now.ahead.found < BLOCK_LINES }
+        ensures room { result ≡ false → self.now.block.lines + length self.now.ahead.found < BLOCK_LINES }
+        ensures in_hand { result ≡ false → IsInHand self.now.reader }
     {
         self.block.lines() + self.ahead.len() >= FULL_LINES || !self.reader.has_line()
     }

@@ -3,6 +3,7 @@
 #![tactic(auto)]
 
 mod alone;
+mod answer_block;
 mod follower;
 mod hosts;
 mod journals;

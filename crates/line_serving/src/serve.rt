@@ -3,10 +3,12 @@ ghost use Rattle.std.specs.Prelude.{◌≡◌, ◌≤◌, true, false, ℕ, List
 ghost use Rattle.issuer_base.specs.OutsideFaults.{Rose, CountsFaults};
 ghost use Rattle.issuer_base.specs.declared.limits.TheConstants.{KEPT_BYTES};
 ghost use Rattle.line_reader.specs.Reading.{kept};
+ghost use Rattle.line_reader.specs.NextLine.{is_fault};
 
+use crate::answer_block::AnswerBlock;
 use crate::hosts::LineHost;
 use issuer_base::{Gate, NoMemory, Sink, Source, Store, WriteFault};
-use line_blocks::{Block, Served};
+use line_blocks::Served;
 use line_reader::{LineReader, NextLine};
 use std::alloc::Global;
 use std::sync::Wait;
@@ -16,13 +18,14 @@ use std::thread::Threads;
 #[derive(Drop)]
 pub struct Server {
     pub(crate) reader: LineReader,
-    pub(crate) block: Block,
+    pub(crate) block: AnswerBlock,
 }
 
 impl Server {
     ghost use Rattle.line_blocks.specs.Serving.{TakesLine, Serves, WritesDue, Finishes, read_failed};
     ghost use Rattle.line_blocks.specs.Serving.{write_failed};
-    ghost use Rattle.line_serving.specs.Hosts.{IsNew, HasServed, MaySettle, HasRoom, IsSettled};
+    ghost use Rattle.line_serving.specs.Hosts.{IsNew, HasServed, MaySettle, HasRoom, IsIdle, IsSettled, MayServeOn, OwesNoAnswer};
+    ghost use Rattle.line_serving.specs.Idle.{IsInHand, MayReadOn, ReadsNext};
 
     /// All the memory that serving lines of this host takes.
     pub fn new<S: Store>(alloc: Global, host: &LineHost<S>) -> Result<Self, NoMemory>
@@ -30,7 +33,7 @@ impl Server {
     {
         Ok(Server {
             reader: LineReader::with_buffer(alloc, host.buffer_bytes())?,
-            block: Block::new(alloc)?,
+            block: AnswerBlock::new(alloc)?,
         })
     }
 
@@ -51,7 +54,7 @@ impl Server {
         W: Sink,
         G: Gate + Sync,
         requires new { IsNew self.old }
-        requires room { HasRoom host.old 0 [] × MaySettle host.old 0 [] }
+        requires idle { IsIdle host.old 0 }
         ensures served { (first : LineHost T T.Store) → HasServed first [] [] [] host.old
             → Serves (λ lines text. HasServed first (map kept lines) text [] host.new) (I.left source.old)
             (I.left source.new)
@@ -61,7 +64,7 @@ impl Server {
         ensures sink_count { CountsFaults (W.faults out.old) (W.faults out.new) (write_failed result) }
     {
         loop {
-            match self.reader.next_line(source) {
+            match Server::read_on(&mut self.reader, &self.block, host, source) {
                 NextLine::Line => {
                     self.take_line(rt, gate, host);
                     match self.write_due(rt, gate, host, out) {
@@ -81,6 +84,21 @@ impl Server {
                 }
             }
         }
+    }
+
+    /// Reads the next line. Only this call reads the input. If no whole line is in memory, it waits for more of the
+    /// input: then no line waits for its answer, and no answer is due.
+    fn read_on<T: Store, I: Source>(
+        reader: &mut LineReader,
+        block: &AnswerBlock,
+        host: &LineHost<T>,
+        source: &mut I,
+    ) -> NextLine
+        requires idle { MayReadOn reader.old (OwesNoAnswer host.now block.now) }
+        ensures found { ReadsNext result (I.left source.old) (I.left source.new) reader.old reader.new }
+        ensures count { CountsFaults (I.faults source.old) (I.faults source.new) (is_fault result) }
+    {
+        reader.next_line(source)
     }
 
     /// Lets the host take the line in hand.
@@ -129,6 +147,7 @@ impl Server {
             (W.held out.new) result }
         ensures room { OnOk result (HasRoom host.new self.new.block.lines self.new.block.text.items
             × MaySettle host.new self.new.block.lines self.new.block.text.items) }
+        ensures idle { OnOk result (MayServeOn host.new self.new) }
         ensures settled { OnErr result (IsSettled host.new) }
         ensures reader { self.old.reader.lines ≤ self.new.reader.lines }
         ensures count { CountsFaults (W.faults out.old) (W.faults out.new) (is_err result) }
@@ -143,7 +162,8 @@ impl Server {
     /// Whether answers are to be written before more is read: no other line can be taken, or no whole line is in hand.
     fn is_due<T: Store>(&self, host: &LineHost<T>) -> bool
         requires { MaySettle host.now self.now.block.lines self.now.block.text.items }
-        ensures { result ≡ false → HasRoom host.now self.now.block.lines self.now.block.text.items }
+        ensures room { result ≡ false → HasRoom host.now self.now.block.lines self.now.block.text.items }
+        ensures in_hand { result ≡ false → IsInHand self.now.reader }
     {
         host.is_full(&self.block) || !self.reader.has_line()
     }

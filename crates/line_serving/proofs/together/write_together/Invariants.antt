@@ -7,8 +7,8 @@ use Rattle.line_serving.specs.Hosts.{HaveAnswered}
 use Rattle.line_serving.proofs.TogetherSteps.{AreInRounds}
 use Rattle.line_serving.proofs.together.write_together.Given as goal
 
-abbrev pub invariant-loop-host : goal.invariant-loop-host
-invariant-loop-host g l = record {
+abbrev pub invariant-loop-block : goal.invariant-loop-block
+invariant-loop-block g l = record {
   rounds : (first : Lanes g.row.S.Denot g.S.Store) (lines : List (List ℕ)) (text : List ℕ) (waiting : List (List ℕ))
       → HaveAnswered first lines text waiting l.fn.host
       → AreInRounds first l.host l.fn.reader l.reader (g.W.Sink.held l.initial.out) (g.W.Sink.held l.out) lines text
@@ -19,5 +19,5 @@ invariant-loop-host g l = record {
   sink_stood : g.W.Sink.faults l.out ≡ g.W.Sink.faults l.initial.out;
 }
 
-abbrev pub decreases-loop-host : goal.decreases-loop-host
-decreases-loop-host g l = waiting_in l.host + length l.reader.ahead
+abbrev pub decreases-loop-block : goal.decreases-loop-block
+decreases-loop-block g l = waiting_in l.host + length l.reader.ahead
