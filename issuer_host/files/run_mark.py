@@ -61,9 +61,21 @@ class RunMark:
         """From now on a run may append. The journals were checked, and all their records are sealed."""
         self.write({shard: left._replace(may_have_grown=True) for shard, left in self.left_now().items()})
 
-    def has_ended(self) -> None:
-        """No run appends any more, until the next one begins."""
+    def was_checked(self) -> None:
+        """The journals were checked, and no run appends to them until the next one begins."""
         self.write(self.left_now())
+
+    def has_ended(self, sealed: Optional[Mapping[int, Left]] = None) -> None:
+        """No run appends any more, until the next one begins. `sealed` is what the run sealed of each journal.
+
+        A line of a run that began is renewed, unless the journal or its seals now have less than when it began, or
+        than was sealed: then records were lost, and the line keeps what they had, for the next start to refuse. A line
+        stays if no run began since it was written: a start that was refused left it.
+        """
+        before, now = self.left(), self.left_now()
+        for shard, left in (sealed or {}).items():
+            before[shard] = greater(before[shard], left) if shard in before else left
+        self.write({shard: renewed(before.get(shard), left) for shard, left in now.items()} | gone(before, now))
 
     def is_cut(self, shard: int, left: Left) -> None:
         """A journal and its seals are truncated next: a start after a crash asks for no more of them."""
@@ -87,6 +99,24 @@ class RunMark:
 
     def close(self) -> None:
         os.close(self.file)
+
+
+def greater(one: Left, other: Left) -> Left:
+    """Returns the greater counts of two, with the sign of the first."""
+    return one._replace(size=max(one.size, other.size), seals=max(one.seals or 0, other.seals or 0))
+
+
+def renewed(before: Optional[Left], now: Left) -> Left:
+    """Returns what the mark says of a journal after a run."""
+    if before is None:
+        return now
+    has_lost = now.size < before.size or (now.seals or 0) < (before.seals or 0)
+    return before if has_lost or not before.may_have_grown else now
+
+
+def gone(before: Mapping[int, Left], now: Mapping[int, Left]) -> "dict[int, Left]":
+    """Returns the lines of journals that aren't there any more."""
+    return {shard: left for shard, left in before.items() if shard not in now}
 
 
 def measured(journal: str) -> Left:

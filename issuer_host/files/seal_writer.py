@@ -4,7 +4,7 @@ from issuer_host.facts.limits import MAX_SHARDS
 from issuer_host.facts.refusal import Refusal, tell
 from issuer_host.files.durable_lines import FollowedJournal
 from issuer_host.files.run_mark import lock_mark
-from issuer_host.files.seals import Seals, seals_of
+from issuer_host.files.seals import Left, Seals, seals_of
 
 # So many pieces of a journal are sealed at a time, and so many of all journals are looked through for the records that
 # are sealed next, so that the bridge's loop goes on.
@@ -68,6 +68,14 @@ class SealWriter:
                     followed.wrote(line)
         return looked
 
+    def sealed(self) -> dict[int, Left]:
+        """Returns the bytes and seals that each journal has at least: those of the records that were sealed."""
+        return {
+            shard: Left(followed.at, seals.count, True)
+            for shard, (followed, seals) in self.journals.items()
+            if followed.at is not None and followed.index == seals.count
+        }
+
     def close(self) -> None:
         self.is_over = True
         for followed, seals in self.journals.values():
@@ -77,6 +85,7 @@ class SealWriter:
 
     def end(self) -> None:
         """The host has ended: what is appended from now on no run wrote. If another run has begun, that one says so."""
+        sealed = self.sealed()
         self.close()
         try:
             mark = lock_mark(self.name, creates=False)
@@ -86,7 +95,7 @@ class SealWriter:
         if mark is None:
             return
         try:
-            mark.has_ended()
+            mark.has_ended(sealed)
         except OSError as fault:
             tell(self.by, f"the end of the run isn't marked: {fault.strerror}")
         finally:

@@ -42,7 +42,7 @@ def check_history(command: str, name: str, shards: int, accepts: bool) -> None:
     if command in APPENDING or any(bytes_of(old_journal_path(name, shard)) for shard in range(shards)):
         mark.has_begun()
     else:
-        mark.has_ended()
+        mark.was_checked()
     mark.hand_over()
 
 
