@@ -96,7 +96,7 @@ class BrokerBridge:
         self.status: int = Status.OK
         self.loop = new_loop()
         port = options.figures and options.figures + options.partition
-        self.figures = Figures(options.partition, options.journal, kinds_at(port))
+        self.figures = Figures(options.partition, options.journal, kinds_at(port, NAME), NAME)
         parameters = topology.parameters_of(options.broker_file)
         self.link = Link(self.loop, parameters, self.steps_of, self.ready, self.lost)
         macs = ReplyMacs(options.broker_file)

@@ -60,8 +60,9 @@ def sum_of(form: str, card: Card, value: str) -> str:
 class WorkFile:
     """The file, and what it says."""
 
-    def __init__(self, journal: str) -> None:
-        self.journal = journal
+    def __init__(self, journal: str, name: str) -> None:
+        """`name` is that of the service which reports faults of the file."""
+        self.journal, self.name = journal, name
         self.path = journal + ENDING
         self.open: dict[str, Begun] = {}
         # By number: the sum of an order's line, and its answer.
@@ -92,7 +93,7 @@ class WorkFile:
             f"{self.path}: {why}. Stop the host, and restore the file from a copy. Without a copy look at the cards'"
             " statuses, and move the file away: orders that were done aren't known by their numbers then"
         )
-        tell("bridge", f"no order and no account's decline is done: {self.fault}")
+        tell(self.name, f"no order and no account's decline is done: {self.fault}")
 
     def clear(self) -> None:
         self.close()
@@ -189,7 +190,7 @@ class WorkFile:
         try:
             self.append(said)
         except OSError as fault:
-            tell("bridge", f"{self.path} can't be written: {fault.strerror}; the journals say what it would")
+            tell(self.name, f"{self.path} can't be written: {fault.strerror}; the journals say what it would")
 
     def when_noted(self, action: Callable[[], object]) -> None:
         """Does something once what was noted is known wherever it may be needed: here it is."""

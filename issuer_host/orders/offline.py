@@ -103,7 +103,8 @@ def settle(file: WorkFile) -> None:
 def order(options: OrderOptions, texts: Sequence[str]) -> None:
     where = options.config, options.journal, options.program
     lines = orders_of(texts)
-    with alone(options.journal), stopped(options.service), contextlib.closing(WorkFile(options.journal)) as file:
+    intents = WorkFile(options.journal, "order")
+    with alone(options.journal), stopped(options.service), contextlib.closing(intents) as file:
         try:
             before = offline.show(*where)
             check(lines, before, options.queued)

@@ -98,7 +98,7 @@ class PartitionHost:
         later = loop.add_callback_threadsafe if settings.is_batched else None
         self.audit = Audit(settings.journal, settings.name, later=later)
         self.hosting = LineHost(loop, settings, self, self, figures, pacer)
-        notes = file or WorkFile(settings.journal)
+        notes = file or WorkFile(settings.journal, settings.name)
         self.works = CardWorks(loop, self.hosting, notes, self.retries, self.work_answered, self.release)
         self.orders = OrderSocket(loop, settings.orders, self.has_host, self.order, settings.name)
         # Whether requests come here: without them a host ends when it is idle.
@@ -130,7 +130,7 @@ class PartitionHost:
     def abandon(self) -> None:
         """Answers nobody any more: requests come again, here or elsewhere. The host ends."""
         self.is_served = False
-        self.works.abandon("the bridge lost the broker: ask again with the same number")
+        self.works.abandon("the connection to the broker is lost: ask again with the same number")
         self.hosting.abandon()
 
     def kill(self) -> None:

@@ -2,15 +2,16 @@
 import resource
 import signal
 import time
+from typing import Optional
 
 from issuer_host.facts.statuses import Status
 from issuer_host.host.event_loop import new_loop
 from issuer_host.replication import positions
 from issuer_host.replication.cluster_keys import ClusterKeys
-from issuer_host.replication.node_file import NodeSettings
+from issuer_host.replication.node_file import NodeSettings, PartitionSettings
 from issuer_host.replication.partition_node import PartitionNode, STOPPED
 from issuer_host.replication.rule import State
-from issuer_host.telling.figures import Figures, KINDS_OF_NODE, kinds_at
+from issuer_host.telling.figures import Figures, KINDS_OF_NODE, Kinds, kinds_at
 from issuer_host.telling.service_manager import Readiness, notify
 
 NAME = "node"
@@ -29,9 +30,9 @@ class AllPartitions:
         self.status: int = Status.OK
         self.loop = new_loop()
         self.keeper = positions.Keeper(self.loop)
-        kinds = kinds_at(settings.figures, KINDS_OF_NODE)
+        kinds = kinds_at(settings.figures, NAME, KINDS_OF_NODE)
         self.partitions = [
-            PartitionNode(self.loop, settings, one, keys, Figures(one.number, one.journal, kinds), self.keeper)
+            PartitionNode(self.loop, settings, one, keys, figures_of(one, kinds), self.keeper)
             for one in settings.partitions
         ]
         self.readiness = Readiness(NAME)
@@ -77,3 +78,7 @@ def raise_limit() -> None:
     wanted = DESCRIPTORS if hard == resource.RLIM_INFINITY else min(hard, DESCRIPTORS)
     if soft != resource.RLIM_INFINITY and soft < wanted:
         resource.setrlimit(resource.RLIMIT_NOFILE, (wanted, hard))
+
+
+def figures_of(one: PartitionSettings, kinds: Optional[Kinds]) -> Figures:
+    return Figures(one.number, one.journal, kinds, f"{NAME}: partition {one.number}")

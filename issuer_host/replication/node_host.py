@@ -42,9 +42,10 @@ class NodeHost:
         # How many hosts in turn ended before they had loaded the journals.
         self.failed_starts = 0
         command = serving_command(settings.configuration, settings.journal, settings.callers, node.program or "", NODE)
-        host = HostSettings(command, settings.journal, f"node: partition {settings.number}", orders=settings.orders)
+        name = f"node: partition {settings.number}"
+        host = HostSettings(command, settings.journal, name, orders=settings.orders)
         self.serving = PartitionHost(
-            loop, host, figures, consumer.replies, self, self, NotedWork(settings.journal, self)
+            loop, host, figures, consumer.replies, self, self, NotedWork(settings.journal, self, name)
         )
 
     def begin(self) -> None:

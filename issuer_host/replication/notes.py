@@ -156,7 +156,7 @@ class Notes:
 
     def leave_out(self) -> None:
         """Writes the file anew without what nobody asks for any more. All notes count."""
-        known = WorkFile(self.journal)
+        known = WorkFile(self.journal, "node")
         for line in self.all():
             with contextlib.suppress(ValueError):
                 known.take(work_of(line))
@@ -209,8 +209,8 @@ class NoteStream(Protocol):
 class NotedWork(WorkFile):
     """`WorkFile` over notes."""
 
-    def __init__(self, journal: str, stream: NoteStream) -> None:
-        super().__init__(journal)
+    def __init__(self, journal: str, stream: NoteStream, name: str) -> None:
+        super().__init__(journal, name)
         self.stream = stream
 
     def load(self) -> None:
@@ -218,7 +218,7 @@ class NotedWork(WorkFile):
         self.open.clear()
         self.ended.clear()
         notes = self.stream.notes()
-        limited = LimitedTelling(lambda text: tell("node", text))
+        limited = LimitedTelling(lambda text: tell(self.name, text))
         lines = notes.all()
         for place, line in enumerate(lines, notes.length() - len(lines)):
             try:

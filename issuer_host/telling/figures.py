@@ -67,21 +67,23 @@ class Kinds:
         FiguresServer(port, prometheus_client.generate_latest).start()
 
 
-def kinds_at(port: int, more: "Optional[dict[str, tuple[str, str, str]]]" = None) -> Optional[Kinds]:
-    """Returns the figures at a port; None if there are none."""
+def kinds_at(port: int, name: str, more: "Optional[dict[str, tuple[str, str, str]]]" = None) -> Optional[Kinds]:
+    """Returns the figures of a service at a port; None if there are none, which is reported by its name."""
     if not port:
         return None
     try:
         return Kinds(port, more or {})
     except (ImportError, OSError) as fault:
-        tell("bridge", f"no figures: {fault}")
+        tell(name, f"no figures: {fault}")
         return None
 
 
 class Figures:
     """The figures of one partition."""
 
-    def __init__(self, partition: int, journal: str, kinds: Optional[Kinds]) -> None:
+    def __init__(self, partition: int, journal: str, kinds: Optional[Kinds], name: str) -> None:
+        # Who reports that the disk can't be measured.
+        self.name = name
         self.partition = str(partition)
         self.journal = journal
         self.figures: dict[str, Any] = {}
@@ -153,4 +155,4 @@ class Figures:
             found = os.statvfs(os.path.dirname(self.journal) or ".")
             self.free.set(found.f_bavail * found.f_frsize)
         except OSError as fault:
-            tell("bridge", f"the journals' disk can't be measured: {fault.strerror}")
+            tell(self.name, f"the journals' disk can't be measured: {fault.strerror}")

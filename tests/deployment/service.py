@@ -1,7 +1,10 @@
 """What deploy/ knows of the program, and its units, alert rules and dashboard, by the tools that judge them."""
+import contextlib
+import io
 import os
 import re
 import shutil
+import socket
 import tempfile
 from functools import partial
 
@@ -14,7 +17,9 @@ from issuer_host.facts.request_lines import pan_of_line
 from issuer_host.facts.statuses import NOT_RESTARTED
 from issuer_host.gateway.figures import GatewayFigures
 from issuer_host.host.supervisor import LOAD_SECONDS
+from issuer_host.orders.intent_log import WorkFile
 from issuer_host.packaging.make_deb import DROP_INS, standby_of
+from issuer_host.telling.figures import Figures, kinds_at
 from runs import content_of, write_text
 
 # The greatest exposure that `systemd-analyze security` may find.
@@ -175,7 +180,30 @@ def names_figures_that_exist(name: str, tally: Tally) -> None:
     tally.expect(used - figures_told(), set(), f"{name}: the figures that nothing writes")
 
 
+def reports_by(name: str, folder: str) -> str:
+    """What a service of this name writes where its figures, its disk and its file of begun work have faults."""
+    journal = f"{folder}/{name.partition(':')[0]}/journal"
+    said = io.StringIO()
+    with socket.socket() as taken, contextlib.redirect_stderr(said):
+        taken.bind(("127.0.0.1", 0))
+        taken.listen()
+        kinds_at(taken.getsockname()[1], name)
+        Figures(0, journal, None, name).look_at_disk()
+        WorkFile(journal, name).load()
+    return said.getvalue()
+
+
+def reports_bear_the_services_name(tally: Tally) -> None:
+    """What goes wrong with figures, disk and begun work is reported by the name of the service that has it."""
+    with tempfile.TemporaryDirectory() as folder:
+        for name in ("bridge", "gateway", "node: partition 3"):
+            lines = reports_by(name, folder).splitlines()
+            others = [line for line in lines if not line.startswith(f"{name}: ")]
+            tally.expect((len(lines), others), (3, []), f"the lines of {name}, and those by another name")
+
+
 CHECKS = [
+    check_of(reports_bear_the_services_name),
     *map(check_of, (knows_lines_and_answers, knows_no_card_of_other_lines, standby_has_other_ports, units_restart)),
     *(
         Check(f"unit_{name.partition('.')[0].strip('@')}", f"{name} by systemd", partial(unit_is_right, name), True)

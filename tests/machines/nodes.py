@@ -205,7 +205,7 @@ class Machine:
 
     def begun_works(self, number: int) -> list[Begun]:
         """Returns the declines that were begun, by the notes of this machine, and that aren't ended."""
-        known = WorkFile(self.journal(number))
+        known = WorkFile(self.journal(number), "bridge")
         for note in read_notes(self.journal(number))[1]:
             known.take(work_of(note))
         return known.declines()
