@@ -1,20 +1,28 @@
-"""Puts a whole file in place: written beside it, synced, renamed, and the folder synced."""
+"""Puts a whole file in place: written beside it, synced, renamed, and the folder synced.
+
+This is the one way in which a file is replaced. A reader sees the old bytes or the new ones, whole, and so does a start
+after a loss of power.
+"""
 from __future__ import annotations
 
 import os
 import tempfile
+from typing import Union
 
-from issuer_host.files.folders import sync_folder
+from issuer_host.files.folders import folder_of, sync_folder
+
+OWN = 0o600
 
 
-def put_in_place(path: str, text: str) -> None:
-    """Replaces a file by this text, or leaves it as it was. A reader sees the old text or the new one, whole."""
-    folder = os.path.dirname(path) or "."
+def put_in_place(path: str, data: Union[str, bytes], mode: int = OWN) -> None:
+    """Replaces a file by these bytes or by a text, or leaves it as it was. A link of its name isn't followed."""
+    folder = folder_of(path)
     held, new = tempfile.mkstemp(dir=folder, prefix=f".{os.path.basename(path)}.")
     try:
-        with os.fdopen(held, "w", encoding="utf-8") as file:
-            file.write(text)
+        with os.fdopen(held, "wb") as file:
+            file.write(data.encode("utf-8") if isinstance(data, str) else data)
             file.flush()
+            os.fchmod(held, mode)
             os.fsync(held)
         os.replace(new, path)
     except BaseException:

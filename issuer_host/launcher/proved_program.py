@@ -1,4 +1,5 @@
 """Whether the built program is the proved one of the sources at hand, and its runs."""
+import contextlib
 import hashlib
 import json
 import os
@@ -9,6 +10,7 @@ from typing import Any, Optional
 from issuer_host.facts.commands import CLEARING, CONFIG, JOURNAL, OVER_JOURNALS, value_of
 from issuer_host.facts.paths import BUILD, HOME, PROGRAM, RECORD
 from issuer_host.facts.proof import read_record
+from issuer_host.files.placement import put_in_place
 from issuer_host.files.run_mark import lock_mark
 from issuer_host.launcher.causes import explained
 from issuer_host.launcher.clearing_progress import Judged
@@ -55,15 +57,9 @@ def stamps() -> dict[str, Stamp]:
 
 def write_json(path: str, value: dict[str, Any]) -> None:
     """Writes a file whole, or leaves it as it was."""
-    new = f"{path}.{os.getpid()}"
-    try:
-        with open(new, "w", encoding="utf-8") as text:
-            json.dump(value, text)
+    with contextlib.suppress(OSError):
         # (another user may run the program)
-        os.chmod(new, 0o644)
-        os.replace(new, path)
-    except OSError:
-        pass
+        put_in_place(path, json.dumps(value), 0o644)
 
 
 def why_unproved() -> Optional[str]:

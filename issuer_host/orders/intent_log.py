@@ -19,6 +19,7 @@ from issuer_host.facts.refusal import Refusal, tell
 from issuer_host.facts.request_lines import SET_STATUS
 from issuer_host.files.card_records import Card, CardRecords, answer_of
 from issuer_host.files.folders import as_owner, folder_of, sync_folder
+from issuer_host.files.placement import put_in_place
 from issuer_host.files.regular_files import open_regular
 from issuer_host.files.summed_lines import is_torn_end, may_be_torn, said_of, summed
 
@@ -153,13 +154,9 @@ class WorkFile:
         said = [begun._asdict() for begun in self.open.values()]
         for number, (value, answer) in self.ended.items():
             said += [Begun(number, "", "", "", 0, value)._asdict(), {"number": number, "answer": answer}]
-        new = self.path + ".new"
         with as_owner(folder_of(self.path)):
-            made = open_regular(new, os.O_RDWR | os.O_CREAT | os.O_TRUNC | os.O_APPEND)
-            os.write(made, text_of(said))
-            os.fsync(made)
-            os.replace(new, self.path)
-            sync_folder(folder_of(self.path))
+            put_in_place(self.path, text_of(said))
+            made = open_regular(self.path, os.O_RDWR | os.O_APPEND)
         os.close(self.file)
         self.file = made
         self.lines = len(said)

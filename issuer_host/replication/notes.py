@@ -17,7 +17,7 @@ from typing import Any, Protocol
 from issuer_host.facts.journals import MAX_RECORD_LINE
 from issuer_host.facts.limited import LimitedTelling
 from issuer_host.facts.refusal import Refusal, tell
-from issuer_host.files.folders import folder_of, sync_folder
+from issuer_host.files.placement import put_in_place
 from issuer_host.files.regular_files import open_regular
 from issuer_host.files.summed_lines import may_be_torn, said_of, summed
 from issuer_host.files.whole_writes import write_whole
@@ -74,17 +74,8 @@ def was_changed(line: str) -> bool:
 
 def write_notes(journal: str, first: int, lines: "list[str]") -> int:
     """Puts notes in place of those that a file has, durably. Returns the bytes."""
-    path = notes_path(journal)
-    new = path + ".new"
     text = "".join(f"{line}\n" for line in (summed({FIRST: first}), *lines)).encode("latin-1")
-    file = open_regular(new, os.O_WRONLY | os.O_CREAT | os.O_TRUNC)
-    try:
-        write_whole(file, text, 0)
-        os.fsync(file)
-    finally:
-        os.close(file)
-    os.replace(new, path)
-    sync_folder(folder_of(path))
+    put_in_place(notes_path(journal), text)
     return len(text)
 
 

@@ -16,6 +16,7 @@ from typing import Any, NamedTuple, Optional
 from issuer_host.facts.faults import refuse_if_lasting
 from issuer_host.facts.journals import POSITION, VERSION_LINE, journal_path, old_journal_path, shards_of_files
 from issuer_host.facts.refusal import Refusal
+from issuer_host.files.placement import put_in_place
 from issuer_host.files.regular_files import open_regular
 from issuer_host.files.seals import copy_seals
 from issuer_host.files.summed_lines import said_of, summed
@@ -119,13 +120,7 @@ def records_up_to(path: str, size: int) -> Optional[int]:
 
 def write(journal: str, position: Position) -> None:
     """Puts a position in place of the one before, durably."""
-    path = position_path(journal)
-    new = path + ".new"
-    with open(open_regular(new, os.O_WRONLY | os.O_CREAT | os.O_TRUNC), "w", encoding="utf-8") as to:
-        to.write(summed(position._asdict()) + "\n")
-        to.flush()
-        os.fsync(to.fileno())
-    os.replace(new, path)
+    put_in_place(position_path(journal), summed(position._asdict()) + "\n")
 
 
 def keep(journal: str, position: Position, grown: Iterable[str]) -> None:

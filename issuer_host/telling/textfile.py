@@ -1,9 +1,11 @@
 """Figures in a file, for the text file collector of Prometheus' node exporter."""
-import contextlib
-import os
 import time
 from collections.abc import Mapping
 
+from issuer_host.files.placement import put_in_place
+
+# The collector is another user.
+FOR_ALL = 0o644
 # By name: what each says.
 FIGURES = {
     "issuer_follow_unwritten_bytes": "Bytes of a journal that the standby's feed doesn't have yet",
@@ -24,14 +26,7 @@ def write(path: str, labels: Mapping[str, str], values: Mapping[str, float]) -> 
 
 def put(path: str, text: str) -> None:
     """Puts a text in place of a file, which all may read. Others may have files and links in its folder."""
-    new = f"{path}.new"
-    with contextlib.suppress(FileNotFoundError):
-        os.remove(new)
-    file = os.open(new, os.O_WRONLY | os.O_CREAT | os.O_EXCL | os.O_CLOEXEC, 0o600)
-    with open(file, "w", encoding="ascii") as to:
-        to.write(text)
-        os.fchmod(to.fileno(), 0o644)
-    os.replace(new, path)
+    put_in_place(path, text, FOR_ALL)
 
 
 def now() -> float:

@@ -1,8 +1,12 @@
 """What a node begins with (deploy/node): NODE.json, positions beside journals, and journals that it truncates."""
+import contextlib
+import errno
 import hashlib
 import itertools
 import json
 import os
+import stat
+import unittest.mock
 from collections.abc import Callable, Iterator, Sequence
 from typing import Any, NamedTuple
 
@@ -11,6 +15,7 @@ from deployment.running import Host, is_refused, new_host, run
 from issuer_host.facts.journals import VERSION_LINE
 from issuer_host.facts.refusal import Refusal
 from issuer_host.facts.statuses import Status
+from issuer_host.files.placement import put_in_place
 from issuer_host.files.seals import Seals
 from issuer_host.orders.intent_log import Begun, DECLINE, MOST_LINES
 from issuer_host.replication import cluster_keys, positions
@@ -349,6 +354,38 @@ def ends_a_run_of_standby_that_hangs(tally: Tally) -> None:
         tally.holds("was killed: it doesn't end" in said[0], f"what is said: {said}")
 
 
+def puts_files_in_place(tally: Tally) -> None:
+    """A file is replaced whole and durably, or stays as it was; a link of its name isn't followed."""
+    with new_host(tally) as host:
+        path, other = f"{host.name}.file", f"{host.name}.other"
+        with open(other, "w", encoding="utf-8") as to:
+            to.write("other")
+        os.symlink(other, path)
+        synced: "list[bool]" = []
+        sync = os.fsync
+
+        def note(file: int) -> None:
+            synced.append(stat.S_ISDIR(os.fstat(file).st_mode))
+            sync(file)
+
+        with unittest.mock.patch("os.fsync", note):
+            put_in_place(path, "first", 0o644)
+        tally.expect(synced, [False, True], "the file is synced, and then its folder")
+        tally.expect(
+            (os.path.islink(path), stat.S_IMODE(os.stat(path).st_mode)), (False, 0o644), "a link, and the mode"
+        )
+        with open(other, encoding="utf-8") as text:
+            tally.expect(text.read(), "other", "what the link led to")
+        for fault in ("os.fsync", "os.replace"):
+            with unittest.mock.patch(fault, side_effect=OSError(errno.ENOSPC, "no room")):
+                with contextlib.suppress(OSError):
+                    put_in_place(path, "second")
+            with open(path, encoding="utf-8") as text:
+                tally.expect(text.read(), "first", f"the file after a fault of {fault}")
+        left = [name for name in os.listdir(os.path.dirname(path)) if ".file." in name]
+        tally.expect(left, [], "what is left beside it")
+
+
 def knows_the_message_of_a_line(tally: Tally) -> None:
     """The message is found from which a run of standby got a line, until a position is past it."""
     lines, origins = FedLines(), [Origin("stream", offset, f"m{offset}") for offset in range(3)]
@@ -455,6 +492,7 @@ CHECKS = [
         refuses_a_record_that_is_none,
         ends_a_run_of_standby_that_hangs,
         knows_the_message_of_a_line,
+        puts_files_in_place,
         notes_are_kept,
         makes_notes_that_can_be_parsed,
         refuses_notes_that_were_changed,
