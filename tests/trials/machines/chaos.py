@@ -14,7 +14,8 @@ to a machine that serves a partition:
 - all that runs on it stands still for 30 s, or its node alone
 - its node, a host, its broker, or the broker that leads a stream is killed; its node is ended
 - the disk of its journals is full; its clock is set
-- a deposed bridge writes a barrier without a greater number, and records that come too late
+- a deposed bridge writes a barrier of an old number, and records that come too late
+- somebody without the cluster's key writes malformed and forged messages to a stream
 
 --events has these happen alone, in their order: `events.py` has their names.
 
@@ -65,7 +66,7 @@ TICK_SECONDS = 8
 RATE, ROUND_SECONDS = 60.0, 15.0
 CHANGED = 0.01
 ANSWER_SECONDS = 900.0
-SHORT_EVENTS = ("power", "deposed", "cut", "node stopped", "leader")
+SHORT_EVENTS = ("power", "deposed", "forged", "cut", "node stopped", "leader")
 TAKEN = "refused 11"
 # What a node writes of its partitions at SIGTERM.
 ENDS = ": the node ends"

@@ -15,6 +15,7 @@ from trials.machines.brokers import NODE
 from trials.machines.history import Reader, last_barrier, next_record
 from trials.machines.machines import Machines
 from trials.machines.network import Machine
+from trials.machines.strangers import write_forgeries
 
 AWAY_SECONDS = (2.0, 8.0)
 STOPPED_SECONDS = 30.0
@@ -182,14 +183,26 @@ def go_on_deposed(machines: Machines, dice: random.Random) -> None:
 
 def haunt(machines: Machines, partition: int) -> None:
     """Writes what a deposed bridge may write: a barrier of an old number, and records that come too late."""
+    write_by_any(machines, lambda file: write_ghosts(file, machines.brokers.macs(partition)))
+
+
+def write_by_any(machines: Machines, write: Callable[[str], object]) -> None:
+    """Writes to a stream by the broker of a machine, or of the next one while that is gone."""
     for attempt in range(GHOST_TRIES):
         file = machines.brokers.url_file(NODE, machines.network.machines[attempt % len(machines.network.machines)])
         try:
-            write_ghosts(file, machines.brokers.macs(partition))
+            write(file)
             return
         except (pika.exceptions.AMQPError, OSError, RuntimeError):
             time.sleep(1.0)
     raise RuntimeError("the stream can't be written")
+
+
+def forge_messages(machines: Machines, dice: random.Random) -> None:
+    """Somebody without the cluster's key writes to a partition's stream, while requests are asked."""
+    partition = dice.randrange(machines.partitions)
+    macs, others = (machines.brokers.macs(one) for one in (partition, partition + 1))
+    write_by_any(machines, lambda file: write_forgeries(file, macs, others))
 
 
 def write_ghosts(file: str, macs: MessageMacs) -> None:
@@ -231,6 +244,7 @@ EVENTS: Mapping[str, Event] = {
     "disk": Event(2, fill_disk),
     "clock": Event(2, set_clock),
     "deposed": Event(3, go_on_deposed),
+    "forged": Event(3, forge_messages),
 }
 
 
