@@ -9,9 +9,34 @@ import collections
 from collections.abc import Callable, Iterator
 from typing import NamedTuple, Optional, Protocol
 
+from issuer_host.replication.bridge_rule import BridgeRule
 from issuer_host.replication.message_mac import MessageMacs
-from issuer_host.replication.messages import Barrier, LOGS, Message, MessageFault, Record, Records, text_of
-from issuer_host.replication.rule import Answer, Bridge, Count, State
+from issuer_host.replication.messages import Barrier, Message, MessageFault, Record, Records, parse, text_of
+from issuer_host.replication.rule import Answer, Count, Diverged
+from issuer_host.replication.rule_events import (
+    Action,
+    Again,
+    Answered,
+    Begin,
+    Beginning,
+    Called,
+    Connected,
+    TruncateJournal,
+    MessageRead,
+    End,
+    HostEnded,
+    Event,
+    Has,
+    HostLoaded,
+    Lost,
+    Publish,
+    AppendRecord,
+    Ready,
+    Reply,
+    PartitionRule,
+    Stop,
+    Told,
+)
 
 COUNTERS = ("7", "8", "9")
 KEY = bytes(range(32))
@@ -60,28 +85,83 @@ class Kept(NamedTuple):
 
 
 class Node:
-    """A machine: its journals, its bridge, and what the bridge wrote that the broker hasn't taken."""
+    """A machine: its journals, its rule, and what the rule had written that the broker hasn't taken.
 
-    def __init__(self, world: "World", number: int, bridge: type[Bridge]) -> None:
+    It does what `deploy/node` does around a rule: it tells events, and carries out what the rule says.
+    """
+
+    rule: PartitionRule
+
+    def __init__(self, world: "World", number: int) -> None:
         self.world = world
         self.number = number
-        self.kind = bridge
-        self.held: list[list[Record]] = [[] for _ in range(LOGS)]
+        self.held: list[list[Record]] = [[] for _ in range(world.shards)]
         self.written: collections.deque[Body] = collections.deque()
         self.position = 0
-        self.kept = Kept(0, Count().barrier, (0,) * LOGS)
+        # What counts up to there, by the rule in words.
+        self.count = Count()
+        self.kept = Kept(0, self.count.barrier, tuple(self.count.records))
         self.names = 0
-        self.is_in_line = False
-        self.has_host = False
-        self.bridge = bridge(f"m{number}", Count(), self, self)
-        self.bridge.connected()
+        self.is_in_line = self.has_host = self.is_serving = False
+        # How many records of each journal the rule knows.
+        self.known = [0] * world.shards
+        # By its number an answer that waits: the card's counter, and what it says.
+        self.waiting: dict[int, Answer] = {}
+        self.answers = 0
+        self.begin_again()
 
-    # What a bridge asks of its journals.
-    def length(self, shard: int) -> int:
-        return len(self.held[shard])
+    # The rule
 
-    def record(self, shard: int, place: int) -> Record:
-        return self.held[shard][place]
+    def tell(self, event: Event) -> None:
+        """Tells an event, carries out what the rule says, and tells what comes of that."""
+        events = collections.deque([event])
+        while events:
+            for action in self.rule.take(events.popleft()):
+                events.extend(self.carry_out(action))
+
+    def carry_out(self, action: Action) -> list[Event]:
+        """Does what the rule says. Returns what it is told then."""
+        if isinstance(action, AppendRecord):
+            self.put(action.record)
+        elif isinstance(action, TruncateJournal):
+            self.truncate(action.shard, action.length)
+        elif isinstance(action, Publish):
+            self.written.append(self.world.signed(parse(action.text)))
+        elif isinstance(action, Reply):
+            self.reply(action.number)
+        elif isinstance(action, Stop):
+            raise Diverged(action.why)
+        elif isinstance(action, Ready):
+            self.is_in_line, self.is_serving = True, False
+        elif isinstance(action, Begin):
+            return self.begin_host()
+        elif isinstance(action, End):
+            return self.end_host()
+        return []
+
+    def reply(self, number: int) -> None:
+        if number not in self.waiting:
+            raise Broken(f"answer {number} is sent, of a host that is gone")
+        self.world.replied(self.waiting.pop(number))
+
+    def begin_host(self) -> list[Event]:
+        """Starts the host, which loads the journals at once. The rule knows just what counts, and is told the rest."""
+        self.has_host = self.is_serving = True
+        self.known = self.count.records[: self.world.shards]
+        return [*self.news(), HostLoaded()]
+
+    def end_host(self) -> list[Event]:
+        self.has_host = self.is_serving = False
+        self.waiting.clear()
+        return [*self.news(), Told()]
+
+    def news(self) -> list[Event]:
+        """What the journals have beyond what the rule knows."""
+        found = [record for records, known in zip(self.held, self.known) for record in records[known:]]
+        self.known = list(map(len, self.held))
+        return [Has(record) for record in found]
+
+    # Its journals
 
     def put(self, record: Record) -> None:
         if self.has_host:
@@ -91,58 +171,51 @@ class Node:
         if any(other.text.split(":")[0] == record.text.split(":")[0] for other in self.held[record.shard]):
             raise Broken(f"a second record for one counter is put: {record}")
         self.held[record.shard].append(record)
+        self.known[record.shard] += 1
 
     def truncate(self, shard: int, length: int) -> None:
         if self.has_host:
             raise Broken("journals are truncated that a host has open")
         del self.held[shard][length:]
+        self.known[shard] = length
 
-    def counted(self, record: Record) -> None:
-        if self.held[record.shard][record.place : record.place + 1] != [record]:
-            raise Broken(f"{record} counts, and the journal hasn't got it")
+    # What happens to it
 
-    # What it does outside.
-    def publish(self, message: Message) -> None:
-        self.written.append(self.world.signed(message))
+    def read(self) -> None:
+        """Reads the stream's next message. One that no node wrote isn't told."""
+        message = self.world.opened(self.world.stream[self.position])
+        self.position += 1
+        if message is not None:
+            self.count.take(message)
+            self.tell(MessageRead(text_of(message)))
+
+    def keep(self) -> None:
+        self.kept = Kept(self.position, self.count.barrier, tuple(self.count.records))
 
     def new_name(self) -> str:
         self.names += 1
         return f"m{self.number}.{self.names}"
 
-    def ready(self) -> None:
-        self.is_in_line = True
-
-    def begin_host(self) -> None:
-        self.has_host = True
-        self.bridge.host_loaded()
-
-    def end_host(self) -> None:
-        self.has_host = False
-
-    def reply(self, answer: Answer) -> None:
-        self.world.replied(answer)
-
-    # What happens to it.
-    def read(self) -> None:
-        message = self.world.opened(self.world.stream[self.position])
-        self.position += 1
-        if message is not None:
-            self.bridge.read(message)
-
-    def keep(self) -> None:
-        self.kept = Kept(self.position, self.bridge.count.barrier, tuple(self.bridge.count.records))
-
     def call(self) -> None:
         self.is_in_line = False
-        self.bridge.called()
+        self.tell(Called(self.new_name()))
 
     def ask(self, counter: str) -> None:
         """Puts a request of a card's counter to the host: it has one record for it, whoever asks."""
-        record = self.find(counter)
-        if record is None:
-            record = self.decide(counter)
-            self.bridge.recorded([record])
-        self.bridge.answered(Answer(counter, record.text, record.at))
+        record = self.find(counter) or self.decide(counter)
+        self.tell_news()
+        self.answer(Answer(counter, record.text, record.at))
+
+    def tell_news(self) -> None:
+        """Tells what the host has recorded, if there is something."""
+        news = self.news()
+        for event in (*news, Told()) if news else ():
+            self.tell(event)
+
+    def answer(self, answer: Answer) -> None:
+        self.answers += 1
+        self.waiting[self.answers] = answer
+        self.tell(Answered(self.answers, answer.place))
 
     def find(self, counter: str) -> Optional[Record]:
         of_counter = (record for records in self.held for record in records if record.text.startswith(f"{counter}:"))
@@ -158,41 +231,52 @@ class Node:
         """The host records its decision of a request, dies before it answers, and another begins."""
         if self.find(counter) is None:
             self.decide(counter)
-        self.bridge.host_ended()
-        self.bridge.host_loaded()
+        self.waiting.clear()
+        self.tell(HostEnded())
+        for event in (*self.news(), HostLoaded()):
+            self.tell(event)
 
     def ask_of_none(self) -> None:
         """Puts a request whose answer names no record, and says all the same what the host has."""
         told = " ".join(record.text for records in self.held for record in records)
-        self.bridge.answered(Answer("", told))
+        self.answer(Answer("", told))
 
     def begin_again(self) -> None:
         """The machine is killed, and begins from its journals and the place that it kept."""
-        self.has_host = self.is_in_line = False
+        self.has_host = self.is_in_line = self.is_serving = False
+        self.waiting.clear()
         self.position = self.kept.position
-        self.bridge = self.kind(f"m{self.number}", Count(self.kept.barrier, self.kept.records), self, self)
-        self.bridge.connected()
+        self.count = Count(self.kept.barrier, self.kept.records)
+        self.rule = self.world.new_rule(Beginning(f"m{self.number}", self.kept.barrier, self.kept.records))
+        self.known = list(self.kept.records[: self.world.shards])
+        for event in (*self.news(), Told(), Connected(self.new_name())):
+            self.tell(event)
 
     def lose_connection(self) -> None:
         self.is_in_line = False
-        self.bridge.disconnected()
-        self.bridge.connected()
+        self.tell(Lost())
+        self.tell(Connected(self.new_name()))
 
 
 class World:
     """Machines that share a stream, and the replies that they sent."""
 
     def __init__(
-        self, bridge: type[Bridge], machines: int = 2, shards: int = 1, macs: Opener = MessageMacs(STREAM, [KEY])
+        self,
+        new_rule: Callable[[Beginning], PartitionRule] = BridgeRule,
+        machines: int = 2,
+        shards: int = 1,
+        macs: Opener = MessageMacs(STREAM, [KEY]),
     ) -> None:
+        self.new_rule = new_rule
         self.shards = shards
         self.macs = macs
         self.stream: list[Body] = []
         self.replies: dict[str, str] = {}
         # Reads each message as the broker takes it.
-        self.truth = bridge("truth", Count(), Shelf(), Nobody()).count
-        self.history: list[list[Record]] = [[] for _ in range(LOGS)]
-        self.nodes = [Node(self, number, bridge) for number in range(machines)]
+        self.truth = Count()
+        self.history: list[list[Record]] = [[] for _ in range(shards)]
+        self.nodes = [Node(self, number) for number in range(machines)]
 
     def replied(self, answer: Answer) -> None:
         """Holds a reply that is sent to what counts."""
@@ -267,7 +351,7 @@ class World:
                 yield Step("take", number)
             if node.is_in_line:
                 yield Step("call", number)
-            if node.bridge.state is State.SERVING:
+            if node.is_serving:
                 yield Step("ask", number, COUNTERS[0])
 
     def do(self, step: Step) -> None:
@@ -282,7 +366,7 @@ class World:
             "ask_of_none": node.ask_of_none,
             "crash": lambda: node.crash(step.counter or COUNTERS[0]),
             "keep": node.keep,
-            "write_again": node.bridge.write_again,
+            "write_again": lambda: node.tell(Again()),
             "kill": node.begin_again,
             "disconnect": node.lose_connection,
             "forge": lambda: self.forge(step.counter),
@@ -294,7 +378,7 @@ class World:
         """Each machine's journals begin with what counts of what it has read."""
         for node in self.nodes:
             for shard in range(self.shards):
-                count = node.bridge.count.records[shard]
+                count = node.count.records[shard]
                 if node.held[shard][:count] != self.history[shard][:count]:
                     raise Broken(f"the journal of machine {node.number} isn't the history that it has read")
 
@@ -306,47 +390,3 @@ class World:
                     self.do(Step("take", number))
                 if node.position < len(self.stream):
                     self.do(Step("read", number))
-        for node in self.nodes:
-            if node.bridge.count.records != self.truth.records or node.bridge.count.barrier != self.truth.barrier:
-                raise Broken(f"machine {node.number} comes to another count")
-
-
-class Shelf:
-    """The journals of nobody."""
-
-    def length(self, shard: int) -> int:
-        return 0
-
-    def record(self, shard: int, place: int) -> Record:
-        raise IndexError(place)
-
-    def put(self, record: Record) -> None:
-        pass
-
-    def truncate(self, shard: int, length: int) -> None:
-        pass
-
-    def counted(self, record: Record) -> None:
-        pass
-
-
-class Nobody:
-    """Does nothing outside."""
-
-    def publish(self, message: Message) -> None:
-        pass
-
-    def new_name(self) -> str:
-        return "nobody"
-
-    def ready(self) -> None:
-        pass
-
-    def begin_host(self) -> None:
-        pass
-
-    def end_host(self) -> None:
-        pass
-
-    def reply(self, answer: Answer) -> None:
-        pass

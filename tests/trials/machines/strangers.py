@@ -24,11 +24,14 @@ class Forgery(NamedTuple):
 
 
 def forgeries(messages: Sequence[Message], macs: MessageMacs, others: MessageMacs) -> Iterator[Forgery]:
-    """What a stranger writes after these messages. `others` signs the messages of another partition's stream."""
+    """What a stranger writes after these messages. `others` signs the messages of another partition's stream.
+
+    (The broker takes no longer message than these.)
+    """
     last = last_barrier(messages)
     name = f"stranger.{uuid.uuid4().hex}"
     wrong_key = MessageMacs(macs.stream, [OTHER_KEY])
-    yield from map(Forgery, (b"", b"this is no message", "mark é\n".encode(), b"mark x\n" * 20_000))
+    yield from map(Forgery, (b"", b"this is no message", "mark é\n".encode(), b"mark x\n" * 9_000))
     for number in (last.number + 1, GREATEST):
         text = text_of(Barrier(number, name, "m0"))
         yield Forgery(text.encode())
