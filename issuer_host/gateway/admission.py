@@ -18,7 +18,8 @@ REPLACED = "silent while others came"
 NO_FIRST_BYTE = "no first byte in time"
 NO_HANDSHAKE = "no handshake was free in time"
 BAD_HANDSHAKE = "the handshake failed"
-REASONS = (TOO_MANY, TOO_MANY_OF_ADDRESS, REPLACED, NO_FIRST_BYTE, NO_HANDSHAKE, BAD_HANDSHAKE)
+BAD_NAME = "its certificate has no accepted name"
+REASONS = (TOO_MANY, TOO_MANY_OF_ADDRESS, REPLACED, NO_FIRST_BYTE, NO_HANDSHAKE, BAD_HANDSHAKE, BAD_NAME)
 
 
 class Stage(enum.Enum):

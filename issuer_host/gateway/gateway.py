@@ -121,9 +121,9 @@ class Gateway:
     # What connections call
 
     def begun(self, connection: Connection) -> str:
-        self.port.opened(connection)
-        if self.is_stopping:
-            return "the gateway ends"
+        why_not = self.port.opened(connection)
+        if why_not or self.is_stopping:
+            return why_not or "the gateway ends"
         self.connections.add(connection)
         self.figures.connections_begun += 1
         self.figures.connections = len(self.connections)

@@ -10,6 +10,8 @@ partition's number goes. By the second form the hosts are behind the broker that
                  (8583=1987-ascii on the loopback)
 --tls-certificate, --tls-key, --tls-clients
                  files in PEM: peers have to show a certificate of one of the last one's authorities
+--tls-names      a name that a peer's certificate has to have, as often as needed: its common name, or a DNS name of it
+--tls-revoked    a file in PEM with the authority's list of revoked certificates (CRL)
 --seconds        the time limit of a message (5). After it 91 or 907 is answered
 --in-flight      messages in flight (1024), --of-connection of one connection (256)
 --connections    in all (2000), --of-address of one address (512), --handshakes of TLS at a time (64)
@@ -35,6 +37,7 @@ from issuer_host.gateway.gateway import Gateway, Partition
 from issuer_host.gateway.log import NAME, tell
 from issuer_host.gateway.options import BadOptions
 from issuer_host.gateway.order_router import OrderRouter
+from issuer_host.gateway.peer_names import PeerNames
 from issuer_host.gateway.pipes import PipeHost
 from issuer_host.host.command import serving_command
 from issuer_host.host.line_host import HostSettings
@@ -64,6 +67,7 @@ async def run(words: Sequence[str]) -> int:
     has_hosts = not options.broker_file
     is_ordered = has_hosts and options.callers == 1
     gateway = Gateway(asyncio.get_running_loop(), options.partitions, bounds, context, is_ordered, has_hosts)
+    gateway.port.names = PeerNames(options.tls_names or ())
     gateway.hosts = brokered(gateway, options) if options.broker_file else pipe_hosts(gateway, options)
     return await gateway.run(listeners, options.figures)
 

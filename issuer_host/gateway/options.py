@@ -38,6 +38,8 @@ def parser_of(usage: str) -> argparse.ArgumentParser:
     parser.add_argument("--tls-certificate")
     parser.add_argument("--tls-key")
     parser.add_argument("--tls-clients")
+    parser.add_argument("--tls-names", action="append")
+    parser.add_argument("--tls-revoked")
     parser.add_argument("--seconds", type=float, default=bounds.seconds)
     parser.add_argument("--in-flight", type=int, default=bounds.in_flight)
     parser.add_argument("--of-connection", type=int, default=bounds.of_connection)
@@ -116,6 +118,8 @@ def tls_of(options: argparse.Namespace) -> Optional[ssl.SSLContext]:
     """TLS by which peers have to show a certificate, or None."""
     given = options.tls_certificate, options.tls_key, options.tls_clients
     if given == (None, None, None):
+        if options.tls_names or options.tls_revoked:
+            raise BadOptions("--tls-names and --tls-revoked are for TLS: give its certificate, key and authorities too")
         return None
     if None in given:
         raise BadOptions("TLS needs all three: --tls-certificate, --tls-key and --tls-clients")
@@ -127,7 +131,20 @@ def tls_of(options: argparse.Namespace) -> Optional[ssl.SSLContext]:
         raise BadOptions(f"the certificates can't be used: {fault}") from fault
     context.verify_mode = ssl.CERT_REQUIRED
     context.minimum_version = ssl.TLSVersion.TLSv1_2
+    if options.tls_revoked:
+        refuse_revoked(context, options.tls_revoked)
     return context
+
+
+def refuse_revoked(context: ssl.SSLContext, path: str) -> None:
+    """Refuses the certificates of a list of revoked ones (CRL), and all certificates once that list has expired."""
+    try:
+        context.load_verify_locations(cafile=path)
+    except (OSError, ssl.SSLError) as fault:
+        raise BadOptions(f"the list of revoked certificates {path} can't be used: {fault}") from fault
+    if not context.cert_store_stats()["crl"]:
+        raise BadOptions(f"{path} has no list of revoked certificates (CRL) in PEM")
+    context.verify_flags |= ssl.VERIFY_CRL_CHECK_LEAF
 
 
 def partition_files(options: argparse.Namespace) -> list[tuple[str, str]]:

@@ -17,6 +17,7 @@ from issuer_host.gateway.admission import Admission, Arrival, Stage
 from issuer_host.gateway.connection import Connection
 from issuer_host.gateway.figures import GatewayFigures
 from issuer_host.gateway.log import Limited
+from issuer_host.gateway.peer_names import PeerNames
 
 BACKLOG = 1024
 # So many sockets are accepted before anything else gets its turn.
@@ -54,6 +55,8 @@ class Port:
     ) -> None:
         self.loop, self.admission, self.context = loop, held, context
         self.figures, self.limited = figures, limited
+        # By TLS: whose certificates are accepted.
+        self.names = PeerNames()
         self.listening: list[socket.socket] = []
         self.waiting: dict[Arrival, Waiting] = {}
         # Of connections from their handshake on.
@@ -175,9 +178,16 @@ class Port:
 
     # What connections say
 
-    def opened(self, connection: Connection) -> None:
-        self.admission.open(self.arrivals[connection])
+    def opened(self, connection: Connection) -> str:
+        """Takes a connection; or says why not."""
+        arrival = self.arrivals[connection]
+        self.admission.open(arrival)
         self.begin_handshakes()
+        certificate = connection.transport.get_extra_info("peercert") if connection.transport is not None else None
+        if certificate is None or self.names.accept(certificate):
+            return ""
+        self.count_refused(admission.BAD_NAME, arrival.address)
+        return admission.BAD_NAME
 
     def ended(self, connection: Connection) -> None:
         arrival = self.arrivals.pop(connection, None)

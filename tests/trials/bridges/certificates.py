@@ -16,6 +16,19 @@ def openssl(*words: str) -> None:
     subprocess.run(["openssl", *words], check=True, stdout=subprocess.DEVNULL, stderr=subprocess.DEVNULL)
 
 
+def make_revoked(folder: str, authority: str, owners: Sequence[str], path: str) -> None:
+    """Writes the list of revoked certificates of an authority: those of the owners."""
+    settings, database = os.path.join(folder, "authority.conf"), os.path.join(folder, "revoked.txt")
+    with open(database, "w", encoding="ascii"):
+        pass
+    with open(settings, "w", encoding="ascii") as text:
+        text.write(f"[ca]\ndefault_ca=own\n[own]\ndatabase={database}\ndefault_md=sha256\ndefault_crl_days=2\n")
+    by = ["-config", settings, "-keyfile", f"{folder}/{authority}.key", "-cert", f"{folder}/{authority}.pem"]
+    for owner in owners:
+        openssl("ca", *by, "-revoke", f"{folder}/{owner}.pem")
+    openssl("ca", *by, "-gencrl", "-out", path)
+
+
 def make_authority(folder: str, name: str, owners: Sequence[str]) -> None:
     """Writes an authority's certificate and key, and a certificate with its key for each owner, all for localhost."""
     authority = os.path.join(folder, name)
