@@ -1,7 +1,7 @@
 """Takes requests from a partition's queue, puts them to the partition's host, and sends the answers back.
 
 usage: bridge --partition N --config FILE --journal NAME [--callers N] [--window N] [--broker-file FILE]
-              [--orders SOCKET] [--second] [--figures PORT] [--program PATH]
+              [--orders SOCKET] [--second] [--figures PORT] [--last-run FILE] [--program PATH]
 
 Run two for each partition: the broker delivers to one of them, and to the other as soon as the first is gone. The host
 is started by issuer-run. It ends if the connection is lost or this process ends, so that its lock on the journals goes
@@ -18,6 +18,8 @@ letters.
 --window       unacknowledged requests at a time (64)
 --broker-file  a file with the broker's URL; the broker of this machine if it is left out
 --orders       the path of a socket at which it takes orders (deploy/order --socket); none if it is left out
+--last-run     a file outside the journals' folder, of both bridges, that says which journals the partition's last run
+               had: others are refused, by the other bridge too; none if it is left out
 --second       another bridge is the partition's first one: this one starts no host before a request or an order comes
 --figures      the port of Prometheus' figures on the loopback, to which the partition is added; none if it is 0 (0)
 
@@ -39,7 +41,8 @@ from issuer_host.broker.types import Callback, Channel, Delivery, Properties, St
 from issuer_host.broker.unacknowledged import entry_of
 from issuer_host.facts.refusal import Refusal, tell
 from issuer_host.facts.statuses import Status
-from issuer_host.host.command import serving_command
+from issuer_host.files.open_journals import REPLACED
+from issuer_host.host.command import StartOptions, serving_command
 from issuer_host.host.event_loop import new_loop
 from issuer_host.host.line_host import HostSettings
 from issuer_host.orders.partition_host import PartitionHost
@@ -63,6 +66,7 @@ class BridgeOptions(NamedTuple):
     orders: Optional[str]
     second: bool
     figures: int
+    last_run: str
     program: Optional[str]
 
 
@@ -77,6 +81,7 @@ def options_of(words: Sequence[str]) -> BridgeOptions:
     parser.add_argument("--orders")
     parser.add_argument("--second", action="store_true")
     parser.add_argument("--figures", type=int, default=0)
+    parser.add_argument("--last-run", default="")
     parser.add_argument("--program")
     parser.error = refuse_words  # type: ignore[assignment]
     return BridgeOptions(**vars(parser.parse_args(words)))
@@ -102,7 +107,8 @@ class BrokerBridge:
         macs = ReplyMacs(options.broker_file)
         self.replying = ReplySender(self.loop, self.link, macs, self.figures, self.end_if_idle, NAME)
         self.flight = self.replying.flight
-        command = serving_command(options.config, options.journal, options.callers, options.program or "")
+        start = StartOptions(options.program or "", last_run=options.last_run)
+        command = serving_command(options.config, options.journal, options.callers, start)
         settings = HostSettings(command, options.journal, NAME, orders=options.orders or "")
         self.serving = PartitionHost(self.loop, settings, self.figures, self.replying, self)
         self.readiness = Readiness(NAME)
@@ -190,7 +196,15 @@ class BrokerBridge:
         self.figures.in_flight.set(len(self.flight))
         self.figures.oldest.set(self.flight.age(now))
         self.serving.look()
+        self.look_at_journals()
         self.loop.call_later(TICK_SECONDS, self.tick)
+
+    def look_at_journals(self) -> None:
+        """Ends a bridge that waits if other files have the journals' names: a disk may be gone."""
+        hosting = self.serving.hosting
+        if not hosting.is_running and hosting.supervisor.files.are_others():
+            tell(NAME, f"the journals {self.options.journal} {REPLACED}")
+            self.give_up(Status.REFUSED)
 
     def give_up(self, status: int) -> None:
         """Ends with a host's status, or with that of what passes."""

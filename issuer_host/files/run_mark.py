@@ -2,7 +2,8 @@
 
 The file `NAME.run` is locked by a run for as long as it lives: a careful start hands the lock over to the program. It
 has a line for each journal: the shard, the bytes of the journal's whole lines, and how many seals it has. While a run
-may append, each line ends with `+`: journal and seals had so much when the run began, and have no less since.
+may append, each line ends with `+`: journal and seals had so much when the run began, and have no less since. Where a
+file outside the folder says which journals the last run had (`last_run`), a first line has that run's name.
 """
 import fcntl
 import os
@@ -16,6 +17,7 @@ from issuer_host.files.seals import Left, count_seals
 ENDING = ".run"
 MOST = 4096
 GROWS = "+"
+RUN = "run"
 
 
 def text_of(shard: int, left: Left) -> str:
@@ -46,24 +48,31 @@ class RunMark:
     def left(self) -> dict[int, Left]:
         """Returns what the last run left, by shard, as far as the mark says it."""
         found: dict[int, Left] = {}
-        for line in os.pread(self.file, MOST, 0).decode("ascii", errors="replace").splitlines():
-            shard, *words = line.split(" ")
+        for shard, *words in self.lines():
             left = left_of(words)
             if shard.isdecimal() and left is not None:
                 found.setdefault(int(shard), left)
         return found
 
+    def run(self) -> str:
+        """Returns the name of the last run; nothing if it has none."""
+        return next((words[1] for words in self.lines() if words[0] == RUN and len(words) > 1), "")
+
+    def lines(self) -> list[list[str]]:
+        text = os.pread(self.file, MOST, 0).decode("ascii", errors="replace")
+        return [line.split(" ") for line in text.splitlines()]
+
     def may_append(self) -> None:
         """From now on a run may append that no careful start began."""
         self.write({shard: left._replace(may_have_grown=True) for shard, left in self.left().items()})
 
-    def has_begun(self) -> None:
+    def has_begun(self, run: str = "") -> None:
         """From now on a run may append. The journals were checked, and all their records are sealed."""
-        self.write({shard: left._replace(may_have_grown=True) for shard, left in self.left_now().items()})
+        self.write({shard: left._replace(may_have_grown=True) for shard, left in self.left_now().items()}, run)
 
-    def was_checked(self) -> None:
+    def was_checked(self, run: str = "") -> None:
         """The journals were checked, and no run appends to them until the next one begins."""
-        self.write(self.left_now())
+        self.write(self.left_now(), run)
 
     def has_ended(self, sealed: Optional[Mapping[int, Left]] = None) -> None:
         """No run appends any more, until the next one begins. `sealed` is what the run sealed of each journal.
@@ -86,9 +95,14 @@ class RunMark:
         """Returns what the journals have, durably."""
         return {shard: measured(journal_path(self.name, shard)) for shard in shards_of_files(self.name).journals}
 
-    def write(self, left: Mapping[int, Left]) -> None:
-        """Writes the mark anew, durably. (A crash between its steps leaves lines of before after those of now.)"""
-        text = "".join(text_of(shard, one) for shard, one in left.items()).encode()
+    def write(self, left: Mapping[int, Left], run: str = "") -> None:
+        """Writes the mark anew, durably, with the run's name. Without one it keeps that of the last run.
+
+        A crash between its steps leaves lines of before after those of now.
+        """
+        name = run or self.run()
+        lines = [f"{RUN} {name}\n"] * bool(name) + [text_of(shard, one) for shard, one in left.items()]
+        text = "".join(lines).encode()
         os.pwrite(self.file, text, 0)
         os.ftruncate(self.file, len(text))
         os.fsync(self.file)

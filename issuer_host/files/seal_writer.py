@@ -3,6 +3,7 @@ from issuer_host.facts.answers import RECORDED
 from issuer_host.facts.limits import MAX_SHARDS
 from issuer_host.facts.refusal import Refusal, tell
 from issuer_host.files.durable_lines import FollowedJournal
+from issuer_host.files.open_journals import Look, open_journals
 from issuer_host.files.run_mark import lock_mark
 from issuer_host.files.seals import Left, Seals, seals_of
 
@@ -22,6 +23,7 @@ class SealWriter:
         self.journals: dict[int, tuple[FollowedJournal, Seals]] = {}
         self.durable: dict[int, int] = {}
         self.is_over = False
+        self.files = open_journals(name)
 
     def answer(self, text: str) -> None:
         """Takes an answer: the record that it names is durable."""
@@ -87,6 +89,9 @@ class SealWriter:
         """The host has ended: what is appended from now on no run wrote. If another run has begun, that one says so."""
         sealed = self.sealed()
         self.close()
+        if self.files is not None and self.files.look() is not Look.SAME:
+            # (a disk is gone: what there is beneath it isn't the run's)
+            return
         try:
             mark = lock_mark(self.name, creates=False)
         except OSError as fault:

@@ -19,6 +19,8 @@ partition's number goes. By the second form the hosts are behind the broker that
 --frame          bytes of a message (4096), --frame-seconds for a torn frame, or for a peer that doesn't read (10),
 --idle-seconds   after which a silent connection is closed (900; 0: never)
 --callers        of each host (1), --window lines that a host has at a time (64)
+--last-run       a file outside the journals' folder, with {} for the partition's number, that says which journals the
+                 last run had: others are refused; none if it is left out
 --orders         the path of a socket at which it takes orders (deploy/order --socket); none if it is left out
 --figures        the port of Prometheus' figures on the loopback; none where it is 0 (0)
 
@@ -39,7 +41,7 @@ from issuer_host.gateway.options import BadOptions
 from issuer_host.gateway.order_router import OrderRouter
 from issuer_host.gateway.peer_names import PeerNames
 from issuer_host.gateway.pipes import PipeHost
-from issuer_host.host.command import serving_command
+from issuer_host.host.command import StartOptions, serving_command
 from issuer_host.host.line_host import HostSettings
 
 
@@ -88,7 +90,8 @@ def pipe_hosts(gateway: Gateway, options: argparse.Namespace) -> list[Partition]
     """A host by pipes for each partition."""
     found: list[PipeHost] = []
     for number, (config, journal) in enumerate(options_of.partition_files(options)):
-        command = serving_command(config, journal, options.callers, options.program or "")
+        start = StartOptions(options.program or "", last_run=options.last_run.replace(options_of.NUMBER, str(number)))
+        command = serving_command(config, journal, options.callers, start)
         name = f"{NAME}: partition {number}"
         gateway.journals.append(journal)
         settings = HostSettings(command, journal, name, options.window, is_batched=True)

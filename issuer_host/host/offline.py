@@ -5,7 +5,7 @@ from typing import Optional
 
 from issuer_host.facts.show_lines import ShownCard, cards_of
 from issuer_host.facts.statuses import meaning_of
-from issuer_host.host.command import command_of
+from issuer_host.host.command import StartOptions, command_of
 
 Card = tuple[str, str]
 
@@ -30,7 +30,8 @@ def run(
 
     `program` is another one than the proved one, and `given` is what it reads from its input.
     """
-    command = command_of(words[0], config, journal, *words[1:], program=program or "", begin="--begin" * begins)
+    start = StartOptions(program or "", "--begin" * begins)
+    command = command_of(words[0], config, journal, *words[1:], start=start)
     done = subprocess.run(command, input=given, capture_output=True, text=True, check=False)
     if done.returncode:
         last = done.stdout.strip().rpartition("\n")[2]

@@ -11,7 +11,7 @@ from typing import Optional, Protocol
 from issuer_host.facts.journals import journals_of
 from issuer_host.facts.refusal import tell
 from issuer_host.facts.statuses import meaning_of
-from issuer_host.files.open_journals import Look, OpenJournals
+from issuer_host.files.open_journals import FirstJournals, Look, REPLACED
 from issuer_host.files.seal_writer import SealWriter
 from issuer_host.host.event_loop import Loop
 from issuer_host.host.lifecycle import Action, Close, GiveUp, Kill, Lifecycle, Limits, Start, HostState, Wait
@@ -58,7 +58,7 @@ class Supervisor:
         # Lines of this run that have no answer, the probe included.
         self.owed = 0
         # The journals that the first run loaded: no run of this process goes on over other files.
-        self.journals: Optional[OpenJournals] = None
+        self.files = FirstJournals(journal)
         self.sealing = SealWriter(journal, name)
         # Whether a host is started as soon as it may be.
         self.is_needed = False
@@ -138,8 +138,8 @@ class Supervisor:
                 self.owner.gave_up(action.status)
 
     def start(self) -> None:
-        if self.journals is not None and self.journals.look() is Look.REPLACED:
-            tell(self.name, f"the journals {self.journal} were moved or replaced: put back the first ones")
+        if self.files.look() is Look.REPLACED:
+            tell(self.name, f"the journals {self.journal} {REPLACED}")
             self.act(self.lifecycle.was_replaced())
             return
         try:
@@ -189,7 +189,7 @@ class Supervisor:
         elif text != PROBE_ANSWER:
             self.act(self.lifecycle.kill(f"it answers `{text}` to a line without a form"))
         elif run is not None:
-            self.journals = self.journals or open_journals(self.journal)
+            self.files.note()
             self.is_needed = False
             self.lifecycle.loaded()
             self.owner.loaded(self.clock() - self.lifecycle.began)
@@ -221,7 +221,7 @@ class Supervisor:
         if run is not self.run:
             return
         self.sealing.look()
-        sight = Look.SAME if self.journals is None else self.journals.look()
+        sight = self.files.look()
         self.act(self.lifecycle.look(self.clock(), self.owed > 0, sight))
         self.look_later(run)
 
@@ -233,14 +233,6 @@ class Supervisor:
 def limits_of(journal: str) -> Limits:
     """How long a run over these journals may be silent."""
     return Limits(LOAD_SECONDS + bytes_of(journal) / LOAD_BYTES, SILENT_SECONDS, SILENT_SECONDS)
-
-
-def open_journals(name: str) -> Optional[OpenJournals]:
-    """Returns the journals that a host has open, or None if they can't be seen now."""
-    try:
-        return OpenJournals(journals_of(name))
-    except OSError:
-        return None
 
 
 def bytes_of(name: str) -> int:

@@ -51,8 +51,8 @@ COMMANDS = {
 UNIT, STANDBY = "issuer@.service", "issuer-standby@.service"
 # Units that are packaged as they are.
 WHOLE_UNITS = ("issuer-gateway.service", "issuer-node.service")
-# Drop-ins of the units, for keys at rest.
-DROP_INS = ("encrypted-configuration.conf", "token.conf")
+# Drop-ins of the units: for keys at rest, and for journals with a disk of their own.
+DROP_INS = ("encrypted-configuration.conf", "own-disk.conf", "token.conf")
 MANUALS = ("issuer.1", "issuer-journal.5", "issuer-deploy.8", "issuer-gateway.8")
 # All pages: each points to others.
 PAGES = (*sorted(name for name in os.listdir(os.path.join(HOME, "docs")) if name.endswith(".md")), "CHANGELOG.md")

@@ -3,7 +3,8 @@
     {"machine": "m1", "broker_file": "/path/url-file", "cluster_key_file": "/path/key",
      "program": "/path/issuer (may be absent)",
      "partitions": [{"number": 0, "configuration": "/path/0.json", "journal": "/path/journals/0", "callers": 1,
-                     "orders": "/path/0.sock (may be absent)"}],
+                     "orders": "/path/0.sock (may be absent)",
+                     "last_run": "/path/last-run-0 (may be absent)"}],
      "figures": 0}
 """
 import json
@@ -24,8 +25,8 @@ OF_NODE = {
     "figures": int,
     "window": int,
 }
-OF_PARTITION = {"number": int, "configuration": str, "journal": str, "callers": int, "orders": str}
-DEFAULTS: "dict[str, Any]" = {"program": None, "figures": 0, "window": 64, "callers": 1, "orders": ""}
+OF_PARTITION = {"number": int, "configuration": str, "journal": str, "callers": int, "orders": str, "last_run": str}
+DEFAULTS: "dict[str, Any]" = {"program": None, "figures": 0, "window": 64, "callers": 1, "orders": "", "last_run": ""}
 
 
 class PartitionSettings(NamedTuple):
@@ -36,6 +37,8 @@ class PartitionSettings(NamedTuple):
     journal: str
     callers: int
     orders: str
+    # The file outside the journals' folder that says which ones the last run had; none if it is empty.
+    last_run: str
 
 
 class NodeSettings(NamedTuple):

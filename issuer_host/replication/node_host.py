@@ -5,7 +5,7 @@ from issuer_host.broker.replies import NO_REPLY_QUEUE, NO_REQUEST
 from issuer_host.broker.unacknowledged import Delivered
 from issuer_host.facts.refusal import Refusal
 from issuer_host.facts.statuses import Status, meaning_of
-from issuer_host.host.command import serving_command
+from issuer_host.host.command import StartOptions, serving_command
 from issuer_host.host.event_loop import Action, Loop
 from issuer_host.host.line_host import HostSettings
 from issuer_host.orders.partition_host import PartitionHost
@@ -41,7 +41,8 @@ class NodeHost:
         self.replica: Optional[Replica] = None
         # How many hosts in turn ended before they had loaded the journals.
         self.failed_starts = 0
-        command = serving_command(settings.configuration, settings.journal, settings.callers, node.program or "", NODE)
+        start = StartOptions(node.program or "", NODE, settings.last_run)
+        command = serving_command(settings.configuration, settings.journal, settings.callers, start)
         name = f"node: partition {settings.number}"
         host = HostSettings(command, settings.journal, name, orders=settings.orders)
         self.serving = PartitionHost(

@@ -22,6 +22,8 @@ from typing import Optional
 from issuer_host.broker import topology
 from issuer_host.broker.types import Channel
 from issuer_host.broker.unacknowledged import Delivered
+from issuer_host.facts.refusal import Refusal
+from issuer_host.files.open_journals import FirstJournals, REPLACED
 from issuer_host.files.regular_files import open_regular
 from issuer_host.host.event_loop import Action, Loop
 from issuer_host.replication import positions
@@ -65,6 +67,7 @@ class PartitionNode:
         # It is there once the position was read.
         self.replica: Optional[Replica] = None
         self.lock: Optional[int] = None
+        self.files = FirstJournals(settings.journal)
         # How long the partition waits before it begins again, and how often it was looked at.
         self.delay = 0.0
         self.looks = 0
@@ -81,6 +84,7 @@ class PartitionNode:
     # The connection
 
     def connected(self, _: Channel) -> None:
+        self.refuse_others()
         if self.replica is None:
             self.lock = self.lock or locked(self.settings.journal)
             self.replica = Replica(self.loop, self.guard, self.node, self.settings, self.macs, self.writer, self)
@@ -95,6 +99,11 @@ class PartitionNode:
             self.replica.disconnected()
         if not self.teller.has_told(why):
             self.tell_state(why)
+
+    def refuse_others(self) -> None:
+        """Stops the partition if other journals have the names than it had first: a disk may be gone."""
+        if self.files.are_others():
+            raise Refusal(f"the journals {self.files.name} {REPLACED}")
 
     # The queue
 
@@ -128,6 +137,7 @@ class PartitionNode:
 
     def look(self, now: float) -> None:
         """A look every half second."""
+        self.refuse_others()
         replica = self.replica
         if replica is None:
             return

@@ -5,7 +5,7 @@ It does what `rule.BridgeActions` asks for. A partition that begins again has a 
 import uuid
 from typing import Any, Protocol
 
-from issuer_host.host.command import INPUT, command_of
+from issuer_host.host.command import INPUT, StartOptions, command_of
 from issuer_host.host.event_loop import Action, Loop
 from issuer_host.replication import positions
 from issuer_host.replication.journal_files import JournalFiles
@@ -173,9 +173,8 @@ def journals_of(
 ) -> JournalFiles:
     """Returns the journals of a partition at a position, with what there is beyond it read."""
     words = ["--feed", INPUT]
-    standby = command_of(
-        "standby", settings.configuration, settings.journal, *words, program=node.program or "", begin=NODE
-    )
+    start = StartOptions(node.program or "", NODE, settings.last_run)
+    standby = command_of("standby", settings.configuration, settings.journal, *words, start=start)
     shards, name = shards_of(settings.configuration), f"node: partition {settings.number}"
     run = StandbyRun(loop, standby, settings.journal, name, guard.fail)
     journals = JournalFiles(settings.journal, shards, found, run)

@@ -1,7 +1,7 @@
 """Starts the program over its journals, or refuses if a start would forget what was decided.
 
-usage: issuer-run [--begin] [--accept-journals] [--node] [--program PATH] serve|show|clear|export|standby
-                  --config FILE --journal NAME ..
+usage: issuer-run [--begin] [--accept-journals] [--node] [--program PATH] [--last-run FILE]
+                  serve|show|clear|export|standby --config FILE --journal NAME ..
 
 The words from the command on are the program's own; see issuer(1). Before it hands over to the program it checks:
 
@@ -23,6 +23,10 @@ The words from the command on are the program's own; see issuer(1). Before it ha
 
 --accept-journals, once, accepts the journals as they are where one of the four before the last is refused: the host
 forgets what they lack, and seals are made anew.
+
+--last-run names a file outside the journals' folder, below /run: it says which files the partition's last run had.
+Other ones are refused, as where a disk went away over an older copy, until FILE is removed. Journals that were moved or
+copied since that run ended aren't others.
 
 Started by root over journals in another user's folder, it goes on as that user, who need not be able to read the
 configuration's file. The program gets such a configuration, and one with wrapped keys, by a pipe that holds it once. No
@@ -61,6 +65,7 @@ PROOF_LOOKS = 5
 PROOF_SECONDS = 1.0
 # The word of a node's starts.
 NODE = "--node"
+PROGRAM_OPTION, LAST_RUN = WITH_VALUES = "--program", "--last-run"
 STREAMS = ("standard input", "standard output", "the error output")
 
 
@@ -74,23 +79,21 @@ class CarefulStart(NamedTuple):
     program: Optional[str]
     # Whether it is a node's, which alone appends to journals that are replicated.
     is_node: bool
+    # The file that says which journals the partition's last run had; none if it is empty.
+    last_run: str
     words: list[str]
 
 
 def start_of(words: Sequence[str]) -> CarefulStart:
-    given = set()
-    program = None
+    given: dict[str, str] = {}
     words = list(words)
-    while words[:1] in (["--begin"], [ACCEPTS], [NODE], ["--program"]):
-        if words[0] == "--program":
-            if len(words) < 2:
-                raise Refusal("--program and its value are missing")
-            program = words[1]
-            words = words[2:]
-        else:
-            given.add(words[0])
-            words = words[1:]
-    return CarefulStart("--begin" in given, ACCEPTS in given, program, NODE in given, words)
+    while words and words[0] in ("--begin", ACCEPTS, NODE, *WITH_VALUES):
+        word, *words = words
+        if word in WITH_VALUES and not words:
+            raise Refusal(f"{word} and its value are missing")
+        given[word] = words.pop(0) if word in WITH_VALUES else ""
+    flags = "--begin" in given, ACCEPTS in given, given.get(PROGRAM_OPTION), NODE in given
+    return CarefulStart(*flags, given.get(LAST_RUN, ""), words)
 
 
 def needed(option: Option, words: Sequence[str]) -> str:
@@ -165,7 +168,7 @@ def hand_over(start: CarefulStart) -> int:
     program = program_of(start)
     if program is None:
         return Status.NO_PROGRAM
-    check_history(words[0], needed(JOURNAL, words), shards, start.accepts)
+    check_history(words[0], needed(JOURNAL, words), shards, start.accepts, start.last_run)
     Audit(needed(JOURNAL, words), NAME).started(words[0], user)
     os.execv(program, ["issuer", *with_configuration(words, configuration.path_for_program(is_readable))])
 

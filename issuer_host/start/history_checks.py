@@ -8,6 +8,7 @@ from typing import Optional
 
 from issuer_host.facts.journals import journal_path, old_journal_path
 from issuer_host.facts.refusal import tell
+from issuer_host.files import last_run
 from issuer_host.files.regular_files import open_regular
 from issuer_host.files.run_mark import RunMark, lock_mark, mark_path
 from issuer_host.files.seals import Left, check_sealed
@@ -24,14 +25,17 @@ LOOK_SECONDS = 0.2
 SMALL_BYTES = 1 << 24
 
 
-def check_history(command: str, name: str, shards: int, accepts: bool) -> None:
+def check_history(command: str, name: str, shards: int, accepts: bool, last: str = "") -> None:
     """Refuses journals that aren't what the last run left, and marks that a run begins.
 
-    Journals that a run has open aren't looked at: the program itself refuses the start.
+    `last` is a file outside the journals' folder that says which ones the partition's last run had. Journals that a run
+    has open aren't looked at: the program itself refuses the start.
     """
     mark = mark_of(name, shards)
     if mark is None:
         return
+    if last and not accepts:
+        last_run.check(last, name, shards, mark)
     left = {} if accepts else mark.left()
     paths = {journal_path(name, shard): left.get(shard) for shard in range(shards)}
 
@@ -39,10 +43,11 @@ def check_history(command: str, name: str, shards: int, accepts: bool) -> None:
         check_journal(path, paths[path], accepts)
 
     do_all(list(paths), check, processes_for(list(paths)))
+    run = last_run.write(last, name, shards) if last else ""
     if command in APPENDING or any(bytes_of(old_journal_path(name, shard)) for shard in range(shards)):
-        mark.has_begun()
+        mark.has_begun(run)
     else:
-        mark.was_checked()
+        mark.was_checked(run)
     mark.hand_over()
 
 

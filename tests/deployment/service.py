@@ -25,6 +25,9 @@ from runs import content_of, write_text
 # The greatest exposure that `systemd-analyze security` may find.
 EXPOSURE = 1.1
 DEPLOY = os.path.join(HOME, "deploy")
+OF_ALL_UNITS = "token.conf"
+# The disk of a partition, in memory.
+MOUNT = "[Mount]\nWhat=tmpfs\nWhere=/var/lib/issuer/0\nType=tmpfs\n"
 UNITS = ("issuer@.service", "issuer-standby@.service", "issuer-gateway.service", "issuer-node.service")
 FIGURE = re.compile(r"\bissuer_\w+")
 # Where the figures' names stand.
@@ -64,16 +67,13 @@ def standby_has_other_ports(tally: Tally) -> None:
     tally.holds(host != standby, "the standby's unit is the host's")
 
 
-def a_configuration_may_be_encrypted(tally: Tally) -> None:
-    """The service manager knows all of the drop-in by which a unit's configuration is an encrypted credential."""
+def drop_in_is_right(drop_in: str, tally: Tally) -> None:
+    """The service manager knows all of a drop-in, in the units that may have it."""
     if not shutil.which("systemd-analyze"):
-        print("left out: the drop-in of a configuration that is encrypted, for want of systemd-analyze")
+        print(f"left out: {drop_in}, for want of systemd-analyze")
         return
-    for drop_in in DROP_INS:
-        for name in UNITS[:2]:
-            takes_drop_in(tally, drop_in, name)
-    for name in UNITS[2:]:
-        takes_drop_in(tally, DROP_INS[-1], name)
+    for name in UNITS if drop_in == OF_ALL_UNITS else UNITS[:2]:
+        takes_drop_in(tally, drop_in, name)
 
 
 def takes_drop_in(tally: Tally, drop_in: str, name: str) -> None:
@@ -81,9 +81,10 @@ def takes_drop_in(tally: Tally, drop_in: str, name: str) -> None:
     text = content_of(os.path.join(DEPLOY, "units", drop_in))
     with tempfile.TemporaryDirectory() as folder:
         write_text(folder, name, re.sub("(?m)^ExecStart=.*", "ExecStart=/bin/true", unit_of(name)))
+        write_text(folder, "var-lib-issuer-0.mount", MOUNT)
         os.mkdir(os.path.join(folder, f"{name}.d"))
         for more, said in (("", ""), ("Nonsense=1\n", "Unknown key")):
-            write_text(folder, f"{name}.d/keys.conf", text + more)
+            write_text(folder, f"{name}.d/{drop_in}", text + more)
             unit = os.path.join(folder, name.replace("@", "@0"))
             ran = run_tool(tally, "systemd-analyze", "verify", "--man=no", unit)
             tally.holds(ran.returncode == 0 and (said in ran.stderr if said else not ran.stderr), ran.stderr)
@@ -209,7 +210,15 @@ CHECKS = [
         Check(f"unit_{name.partition('.')[0].strip('@')}", f"{name} by systemd", partial(unit_is_right, name), True)
         for name in UNITS
     ),
-    check_of(a_configuration_may_be_encrypted)._replace(may_be_empty=True),
+    *(
+        Check(
+            f"drop_in_{name.partition('.')[0]}",
+            f"{name} by systemd",
+            partial(drop_in_is_right, name),
+            may_be_empty=True,
+        )
+        for name in DROP_INS
+    ),
     check_of(alert_rules_are_right)._replace(may_be_empty=True),
     check_of(each_alert_is_raised),
     check_of(alerts_have_the_programs_numbers),

@@ -97,8 +97,11 @@ class Machine:
         self.run("issuer-run", "--begin", "show", "--config", config, "--journal", journal)
         listens = ["--listen", f"{self.listens}={DIALECT}", "--figures", str(self.port)]
         orders = f"{self.folder}/run/issuer-gateway/orders"
-        os.mkdir(os.path.dirname(orders), mode=0o700)
-        command = [f"{self.bin}/issuer-gateway", "--config", config, "--journal", journal, "--orders", orders, *listens]
+        runs = f"{self.folder}/run/issuer-runs"
+        for path in (os.path.dirname(orders), runs):
+            os.mkdir(path, mode=0o700)
+        files = ["--config", config, "--journal", journal, "--orders", orders, "--last-run", f"{runs}/{{}}"]
+        command = [f"{self.bin}/issuer-gateway", *files, *listens]
         self.write(f"units/{UNIT}.command", json.dumps(command))
         self.add_bridges(config, journal)
 
