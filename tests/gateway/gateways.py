@@ -155,6 +155,8 @@ class Gateway:
         until = time.monotonic() + START_SECONDS
         while len(self.listening) < len(DIALECTS):
             if self.process.poll() is not None or time.monotonic() > until:
+                self.process.kill()
+                self.process.wait()
                 raise RuntimeError(f"the gateway didn't start: {self.said}")
             time.sleep(0.01)
 
