@@ -30,7 +30,7 @@ from issuer_host.replication.rule_events import (
 
 
 class BridgeRule:
-    """A bridge, and what it knows of its machine's journals. It is the bridge's `Journals`, and its `Outside`."""
+    """A bridge, and what it knows of its machine's journals. It is the bridge's `Journals`, and its `BridgeActions`."""
 
     def __init__(self, beginning: Beginning, bridge: type[Bridge] = Bridge, count: type[Count] = Count) -> None:
         # Of each shard's journal: how many records were counted, and those that are known beyond.
