@@ -2,7 +2,5 @@
 pub mod Finding
 pub mod FirstPlace
 pub mod Numbers
-pub mod Blocks
-pub mod Opens
 pub mod OneLine
 pub mod LookUps

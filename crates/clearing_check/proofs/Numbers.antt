@@ -1,12 +1,12 @@
 -- The numbers of records after one more.
-use Rattle.std.proofs.Common.{◌≡◌, ℕ, ◌+◌, ◌<◌, ◌≤◌, Bool, true, false, cond, not, eqb, ◌&&◌, if◌then◌else◌, List, [], ◌∷◌, ◌++◌, length, refl, ap, ap₂, ◌∙◌, sym, arith, inl, inr}
+use Rattle.std.proofs.Common.{◌≡◌, ℕ, ◌+◌, ◌<◌, ◌≤◌, Bool, true, false, cond, not, eqb, ◌&&◌, if◌then◌else◌, List, [], ◌∷◌, ◌++◌, length, set, get_or, refl, ap, ap₂, ◌∙◌, sym, arith, inl, inr}
 use Rattle.std.specs.List.{position_or_len}
 use Rattle.std.proofs.lemmas.Bool.{cases_Bool, cond-false, cond-true, and_from, and_left, and_right, eq-eqb, ne_eqb, cases_eq}
-use Rattle.std.proofs.lemmas.List.{length_push}
-use Rattle.std.proofs.lemmas.List.Folds.{position_or_len_push}
+use Rattle.std.proofs.lemmas.List.{length-set, length_push}
+use Rattle.std.proofs.lemmas.List.Folds.{position_or_len-set, position_or_len_push}
 use Rattle.std.proofs.lemmas.List.Sums.{prefix_len-le-length}
 use Rattle.clearing_check.specs.declared.filed.Filed.{Filed}
-use Rattle.clearing_check.specs.Records.{has_atc}
+use Rattle.clearing_check.specs.Records.{has_atc, certified}
 use Rattle.clearing_check.specs.AtcPages.{Pages, slot_of, slot_for, HaveNumbers}
 
 -- the slot by a number and the number of records
@@ -99,3 +99,11 @@ numbers-push pages new records filed n numbers next set card atc small =
           (and_right (eqb old 0) (has_atc card atc filed) apart)
           ∙ known ∙ slot_for-other card atc records filed apart
     ]
+
+-- a record that is certified keeps its number
+pub numbers-certified : (pages : Pages) (records : List Filed) (n : ℕ) (d : Filed) → HaveNumbers pages records
+    → HaveNumbers pages (set records n (certified (get_or records n d)))
+numbers-certified pages records n d numbers card atc small =
+    let number = position_or_len-set (has_atc card atc) records n (certified (get_or records n d)) d refl in
+    let count = length-set records n (certified (get_or records n d)) in
+    numbers card atc small ∙ rw (number, count) refl

@@ -4,6 +4,5 @@ pub mod Verdicts
 pub mod Records
 pub mod AtcPages
 pub mod NextOpen
-pub mod OpenCounts
 pub mod Inside
 pub mod ClearText

@@ -1,26 +1,16 @@
 //! Records, filed for lookup by card and ATC.
 ghost use Rattle.std.specs.Prelude.{◌≡◌, ◌+◌, ◌<◌, ◌++◌, [], ◌∷◌, length, drop, slice_get, option_map, find, count_by, IfOk, OnOk, OnErr, MatchOption, ℕ, if◌then◌else◌};
 ghost use Rattle.std.specs.List.{position_or_len};
-ghost use Rattle.clearing_check.specs.Records.{has_atc, is_certified, opens, place_of, certify};
+ghost use Rattle.clearing_check.specs.Records.{has_atc, is_certified, is_open, opens, place_of, certify};
 ghost use Rattle.clearing_check.specs.NextOpen.{IsNextOpen};
 ghost use Rattle.clearing_check.specs.Verdicts.{verdict_by, certifies};
 
 use crate::atc_pages::AtcPages;
 use crate::filed::Filed;
-use crate::open_counts::{OpenCounts, is_open};
 use crate::verdict::{Verdict, verdict_by};
 use issuer_base::{NoMemory, Request};
 use std::alloc::Global;
 use std::marker::Model;
-
-/// How many records in a row are a group.
-const GROUP: usize = 64;
-
-/// How many groups in a row are a block.
-const GROUPS: usize = 64;
-
-/// How many records in a row are a block.
-const BLOCK: usize = GROUP * GROUPS;
 
 /// An open record, and where to go on from it.
 #[derive(Clone, Copy)]
@@ -44,10 +34,6 @@ pub struct FiledRecords {
 
     /// One more than the number of the first record, for each ATC of a card.
     pages: AtcPages,
-
-    /// How many records are open in each block of 4,096, and in each group of 64.
-    blocks: OpenCounts,
-    groups: OpenCounts,
 }
 
 impl Model for FiledRecords {
@@ -62,8 +48,6 @@ impl Model for FiledRecords {
     ghost invariant = { λ records. AreFiled (record {
       records = records.records.items;
       pages = records.pages;
-      blocks = records.blocks;
-      groups = records.groups;
     }) };
 }
 
@@ -75,8 +59,6 @@ impl FiledRecords {
         Ok(FiledRecords {
             records: Vec::new(alloc),
             pages: AtcPages::new(alloc, cards)?,
-            blocks: OpenCounts::new(alloc, BLOCK),
-            groups: OpenCounts::new(alloc, GROUP),
         })
     }
 
@@ -87,11 +69,7 @@ impl FiledRecords {
     {
         let slot = slot_after(self.records.len())?;
         self.records.reserve(1)?;
-        self.blocks.make_room(self.records.as_slice())?;
-        self.groups.make_room(self.records.as_slice())?;
         self.pages.set_first(filed.card, filed.atc, slot)?;
-        self.blocks.add(self.records.as_slice(), &filed);
-        self.groups.add(self.records.as_slice(), &filed);
         self.records.push_reserved(filed);
         Ok(())
     }
@@ -140,8 +118,6 @@ impl FiledRecords {
             → self.new ≡ certify card atc self.old }
     {
         if number < self.records.len() {
-            self.blocks.certify(self.records.as_slice(), number);
-            self.groups.certify(self.records.as_slice(), number);
             self.records[number].certified = true;
         }
     }
@@ -157,14 +133,11 @@ impl FiledRecords {
     }
 
     /// Where the open record of this index is: its shard, and its index in the shard's journal. `None` exactly past the
-    /// last. This reads a count for each block before it, then for each group, and then the records of one group.
+    /// last. This reads the records up to it: [`FiledRecords::next_open`] lists them all in one pass.
     pub fn left(&self, index: u64) -> Option<(u8, u64)>
         ensures { result ≡ option_map place_of (slice_get (opens self.now) index) }
     {
-        let (block, left) = self.blocks.skip(0, index);
-        let (group, left) = self.groups.skip(block * GROUPS, left);
-        let start = (group * GROUP).min(self.records.len());
-        nth_open(&self.records[start..], left)
+        nth_open(self.records.as_slice(), index)
     }
 
     /// The first open record from this number on. `None` exactly if there is none. This reads the records up to it.
@@ -227,4 +200,11 @@ fn nth_open(records: &[Filed], index: u64) -> Option<(u8, u64)>
         }
     }
     None
+}
+
+/// Whether the record is open.
+fn is_open(filed: &Filed) -> bool
+    ensures { result ≡ is_open filed.now }
+{
+    filed.approved && !filed.certified
 }

@@ -7,7 +7,6 @@ mod book;
 mod filed;
 mod filed_records;
 mod lines;
-mod open_counts;
 mod presented;
 mod presented_ahead;
 mod verdict;

@@ -8,3 +8,4 @@ mod OpeningCounters
 pub mod Sharing
 mod Closed
 mod Answered
+pub mod LookUps

@@ -1,6 +1,6 @@
 -- A pass's seats stay tied: its kept claims are the decided records among its own, whatever else it sees of the logs.
-use Rattle.std.proofs.Common.{◌≡◌, ℕ, zero, suc, ◌<◌, List, [], ◌∷◌, ◌++◌, length, Some, refl, sym, ap, ◌∙◌, arith}
-use Rattle.std.proofs.Common.{◌&&◌, ◌≤◌, get_or, subst}
+use Rattle.std.proofs.Common.{◌≡◌, ℕ, zero, suc, ◌<◌, List, [], ◌∷◌, ◌++◌, length, Some, refl, ap, ◌∙◌, arith}
+use Rattle.std.proofs.Common.{◌&&◌, ◌≤◌, get_or}
 use Rattle.std.proofs.lemmas.List.Elements.{All-append, All-head, All-tail}
 use Rattle.std.specs.List.{slice_get}
 use Rattle.shared_seats.specs.Totals.{one_if}
@@ -8,7 +8,7 @@ use Rattle.shared_seats.proofs.Totals.{total-append}
 use Rattle.shared_seats.specs.SeatNames.{after_split, split_off}
 use Rattle.claim_words.specs.declared.view.Claimed.{Claimed}
 use Rattle.claim_words.specs.declared.view.ClaimView.{ClaimView}
-use Rattle.claim_words.specs.ClaimViews.{is_pair, claims_on, is_kept}
+use Rattle.claim_words.specs.ClaimViews.{is_pair, is_kept}
 use Rattle.claim_words.specs.ClaimViews.{parent_view as parent_claims, child_view as child_claims, joined as joined_claims}
 use Rattle.turn_book.specs.declared.logs.Log.{Log}
 use Rattle.turn_book.specs.declared.view.TurnView.{TurnView}
@@ -62,28 +62,6 @@ within-later seen later mine fronts within = λ i d below.
     let shard : ℕ = (get_or mine i d).0 in
     let long : length (items_at seen shard) ≤ length (items_at later shard) = front_length (items_at seen shard) (items_at later shard) (fronts shard) in
     omega arith
-
--- a seat that has seen more of the logs, and has added nothing
-pub tied-later : (claims : ClaimView) (logs later : TurnView LogItem LogHead) → heads_of later.seen ≡ heads_of logs.seen
-    → ((shard : ℕ) → IsFront (items_at logs.seen shard) (items_at later.seen shard)) → later.mine ≡ logs.mine → later.names ≡ logs.names
-    → AreTied claims logs → AreTied claims later
-tied-later claims logs later heads fronts mine names tied = record {
-  one_name = tied.one_name ∙ sym names;
-  seen = subst (AreWithin later.seen) (sym mine) (within-later logs.seen later.seen logs.mine fronts tied.seen);
-  kept = λ card counter.
-      tied.kept card counter ∙ sym (decisions-later card counter logs.seen later.seen logs.mine heads fronts tied.seen)
-      ∙ ap (λ mine. decisions_at later.seen mine card counter) (sym mine);
-}
-
--- claims that are kept as before
-pub tied-claims : (claims after : ClaimView) (logs : TurnView LogItem LogHead) → after.names ≡ claims.names
-    → ((card counter : ℕ) → claims_on is_kept card counter after.claims ≡ claims_on is_kept card counter claims.claims)
-    → AreTied claims logs → AreTied after logs
-tied-claims claims after logs names kept tied = record {
-  one_name = names ∙ tied.one_name;
-  seen = tied.seen;
-  kept = λ card counter. kept card counter ∙ tied.kept card counter;
-}
 
 pub tied-parent : (claims : ClaimView) (logs : TurnView LogItem LogHead) → AreTied claims logs → AreTied (parent_claims claims) (parent_view logs)
 tied-parent claims logs tied = record { one_name = ap after_split tied.one_name; seen = tied.seen; kept = tied.kept }

@@ -6,7 +6,7 @@ ghost use Rattle.claim_words.specs.declared.claim_words.Claim.TheVariants.{Won, 
 ghost use Rattle.line_checks.specs.AtHand.{IsOrderAtHand};
 ghost use Rattle.shared_shards.specs.Turned.{OrdersInTurn};
 ghost use Rattle.shared_laws.specs.declared.checked.Checked.TheVariants.{Decide};
-ghost use Rattle.shared_laws.specs.Finishes.{claims_after, is_fresh, standing_by, Finishes};
+ghost use Rattle.shared_laws.specs.Finishes.{claims_after, standing_by, Finishes};
 ghost use Rattle.host_calls.specs.Passes.{claims_of, logs_of, HasClaimed, Holds, IsFree};
 ghost use Rattle.shared_laws.specs.PreChecks.{HasPassed};
 

@@ -1,7 +1,6 @@
 //! The loading of a host of several callers.
 ghost use Rattle.std.specs.Prelude.{◌≡◌, ◌<◌, ◌≤◌, [], length, vec_capacity, IfOk, IfErr};
 ghost use Rattle.issuer_base.specs.declared.limits.TheConstants.{MAX_SHARDS};
-ghost use Rattle.issuer_setup.specs.IssuerSetup.{Setup};
 ghost use Rattle.shared_shards.specs.ShardSeats.{opening_in};
 ghost use Rattle.host_loading.specs.Loading.{AreLoaded, AreOnlyRead};
 ghost use Rattle.host_calls.specs.Loading.{IsFirstPass, IsShared};

@@ -5,15 +5,14 @@ ghost use Rattle.line_checks.specs.LookedUp.{IsLookUp};
 ghost use Rattle.line_checks.specs.Reading.{reading};
 ghost use Rattle.host_calls.specs.Passes.{claims_of, logs_of, IsFree, Holds};
 ghost use Rattle.shared_laws.specs.PreChecks.{HasPassed, ChecksRequest, IsAskedBy, PreChecks};
-ghost use Rattle.claim_words.specs.declared.claim_words.Claim.{Claim};
 ghost use Rattle.claim_words.specs.declared.claim_words.Claim.TheVariants.{Won};
 ghost use Rattle.shared_laws.specs.declared.checked.Checked.TheVariants.{Decide};
 
 use crate::host::Host;
 use crate::pass::Pass;
 use claim_words::Claim;
-use issuer_base::{Refusal, Store, WINDOW};
-use line_checks::{self, CheckedRequest, LookedUp, check_line};
+use issuer_base::{MAX_CHIP_BYTES, Refusal, Store, WINDOW};
+use line_checks::{CheckedRequest, LookedUp, look_up};
 use shared_laws::Checked;
 
 impl<S: Store> Host<S> {
@@ -33,12 +32,9 @@ impl<S: Store> Host<S> {
         // If it refuses the line, the pass is still free; otherwise the pass holds what was checked.
         ensures held { MatchResult result (Holds self.now pass.new) (λ _. IsFree self.now pass.new) }
     {
-        let found = match check_line(&self.issuer, line)? {
-            line_checks::CheckedLine::Decide(found) => found,
-            line_checks::CheckedLine::Order(found) => return Ok(Checked::Order(found)),
-        };
-        let claim = self.claim(pass, &found)?;
-        Ok(Checked::Decide { found, claim })
+        let mut data = [0; MAX_CHIP_BYTES];
+        let found = look_up(&self.issuer, line, &mut data);
+        self.pre_check_found(pass, &found)
     }
 
     /// Checks a line that was looked up ahead, as [`Host::pre_check`] does.

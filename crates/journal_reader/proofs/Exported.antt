@@ -1,5 +1,5 @@
 -- The feed lines of records, one more at a time.
-use Rattle.std.proofs.Common.{◌≡◌, ℕ, ◌+◌, List, [], ◌∷◌, ◌++◌, length, drop, Option, None, Some, All, false}
+use Rattle.std.proofs.Common.{◌≡◌, ℕ, ◌+◌, List, [], ◌∷◌, ◌++◌, length, drop, Option, None, Some, All}
 use Rattle.std.proofs.Common.{refl, sym, ap, subst, ◌∙◌, inl, inr, append-nil, append_assoc, arith}
 use Rattle.std.proofs.KnownBytes.{Appends-nil, Appends-trans}
 use Rattle.std.proofs.lemmas.List.{length_push, take-append-drop}
@@ -8,15 +8,11 @@ use Rattle.std.proofs.Math.Seq.{get_or-append_seam}
 use Rattle.issuer_base.specs.Sink.{AppendsFront}
 use Rattle.issuer_base.specs.declared.entry.Entry.{Entry}
 use Rattle.issuer_base.proofs.ManyCalls.{AppendsFront-after}
-use Rattle.issuer_setup.specs.IssuerSetup.{Setup}
 use Rattle.journal_rec.specs.Record.{IsRecord}
-use Rattle.journal_rec.specs.RecordText.{texts_of}
 use Rattle.feed_text.specs.FeedText.{feed_line}
 use Rattle.journal_reader.specs.declared.reader.RecordReader.{RecordReader}
-use Rattle.journal_reader.specs.declared.reader.RecordFault.{RecordFault}
-use Rattle.journal_reader.specs.declared.reader.RecordFault.TheVariants.{StoreFault, BadLine}
-use Rattle.journal_reader.specs.Reading.{HasRead, StartsOtherwise}
-use Rattle.journal_reader.specs.Filing.{HasFirstRecords, HoldsHistory, fault_of, is_bad}
+use Rattle.journal_reader.specs.Reading.{HasRead}
+use Rattle.journal_reader.specs.Filing.{HasFirstRecords}
 use Rattle.journal_reader.proofs.Filed.{map-push}
 use Rattle.journal_reader.specs.Exporting.{IsPut, feed_in, feed_text}
 
@@ -79,14 +75,6 @@ first-read reader (Some text) history read = record {
     sym (take-append-drop reader.taken text) ∙ ap (λ l. l ++ drop reader.taken text) read.front,
   );
 }
-
--- a text of records begins with `v2`
-pub begins-spared : (issuer : Setup) (shard : ℕ) (bytes : Option (List ℕ)) (history : List Entry) (fault : RecordFault)
-    → StartsOtherwise bytes fault → HoldsHistory issuer shard bytes history → is_bad (fault_of fault) ≡ false
-begins-spared issuer shard bytes history StoreFault stops holds = refl
-begins-spared issuer shard bytes history (BadLine line) stops holds =
-    absurd ((subst (λ (b : Option (List ℕ)). StartsOtherwise b (BadLine line)) holds.bytes_are stops).1
-    (texts_of history) refl)
 
 -- ---- a journal
 

@@ -25,7 +25,7 @@ use Rattle.journal_reader.specs.Filing.{CountAt, HasFirstRecords, HasRecords, Ho
 use Rattle.journal_reader.proofs.FiledStores.{each-set, get-front, get-last}
 use Rattle.journal_reader.specs.declared.export.ExportFault.{ExportFault}
 use Rattle.journal_reader.specs.declared.export.ExportFault.TheVariants.{WriteFault as SinkFault, Unread}
-use Rattle.journal_reader.specs.Exporting.{Exports, ExportsAll, ExportsBefore, ExportsFirst, ExportsJournal, IsPut, IsSparedIn}
+use Rattle.journal_reader.specs.Exporting.{Exports, ExportsBefore, ExportsFirst, ExportsJournal, IsPut, IsSparedIn}
 use Rattle.journal_reader.specs.Exporting.{IsSparedJournal, Puts, fails_at, feed_in, feed_text, read_failed, write_failed}
 use Rattle.journal_reader.proofs.Exported.{feed-all-more, put-front, put-more, put-none}
 

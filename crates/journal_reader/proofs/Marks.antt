@@ -42,12 +42,6 @@ hits-mark (Err verdict) mark filed = refl
 hits-mark (Ok found) mark filed =
     ap (λ by. has_atc found.card found.request.atc filed && certifies by) (verdict-mark mark filed found.request)
 
-is_hit-mark : (issuer : Setup) (lines : List (List ℕ)) (mark : Bool) (filed : Filed)
-    → is_hit issuer lines (with_mark mark filed) ≡ is_hit issuer lines filed
-is_hit-mark issuer [] mark filed = refl
-is_hit-mark issuer (line ∷ lines) mark filed =
-    ap₂ (λ (a b : Bool). a || b) (hits-mark (presented issuer line) mark filed) (is_hit-mark issuer lines mark filed)
-
 -- ---- records that are apart
 
 -- no two are on one ATC of a card

@@ -20,17 +20,9 @@ pub Every-append : {X : Type 0} (P : X → Type 0) (xs ys : List X) → Every P 
 Every-append P [] ys all others = others
 Every-append P (x ∷ xs) ys all others = (all.0, Every-append P xs ys all.1 others)
 
-pub Every-weaker : {X : Type 0} (P Q : X → Type 0) (xs : List X) → ((x : X) → P x → Q x) → Every P xs → Every Q xs
-Every-weaker P Q [] weaker all = tt
-Every-weaker P Q (x ∷ xs) weaker all = (weaker x all.0, Every-weaker P Q xs weaker all.1)
-
 pub Every-from : {X : Type 0} (P : X → Type 0) (xs : List X) → ((x : X) → Has xs x → P x) → Every P xs
 Every-from P [] each = tt
 Every-from P (x ∷ xs) each = (each x (inl refl), Every-from P xs (λ y there. each y (inr there)))
-
-pub Every-both : {X : Type 0} (P Q : X → Type 0) (xs : List X) → Every P xs → Every Q xs → Every (λ x. P x × Q x) xs
-Every-both P Q [] one other = tt
-Every-both P Q (x ∷ xs) one other = ((one.0, other.0), Every-both P Q xs one.1 other.1)
 
 pub Has-append : {X : Type 0} (xs ys : List X) (x : X) → Has (xs ++ ys) x → Has xs x ⊎ Has ys x
 Has-append [] ys x there = inr there

@@ -1,5 +1,5 @@
 -- How a reader goes on in a text, a line at a time.
-use Rattle.std.proofs.Common.{◌≡◌, ◌≢◌, ℕ, suc, ◌+◌, ◌-◌, ◌≤◌, min, List, [], ◌∷◌, ◌++◌, length, take, drop}
+use Rattle.std.proofs.Common.{◌≡◌, ◌≢◌, ℕ, ◌+◌, ◌-◌, ◌≤◌, List, [], ◌∷◌, ◌++◌, length, take, drop}
 use Rattle.std.proofs.Common.{Option, None, Some, IfSome, sym, ap, subst, ◌∙◌, arith, append_assoc, length-append}
 use Rattle.std.specs.List.{slice_range}
 use Rattle.std.proofs.Math.Seq.{take-add}
@@ -170,18 +170,3 @@ version-front None part rest starts is = tt
 version-front (Some text) part rest starts is =
     let long : 3 ≤ length part = omega (arith, ap length starts, length-append version_line rest) in
     sym (take-take 3 (length part) text long) ∙ ap (take 3) (sym is ∙ starts)
-
--- it doesn't
-pub version-none : (bytes : Option (List ℕ)) (part : List ℕ) (room size : ℕ)
-    → length part ≡ min room size → 3 ≤ room → IfSome bytes (λ text. size ≡ length text)
-    → ((rest : List ℕ) → part ≢ version_line ++ rest)
-    → IfSome bytes (λ text. part ≡ take (length part) text)
-    → IfSome bytes (λ text. (rest : List ℕ) → text ≢ version_line ++ rest)
-version-none None part room size all wide sized none is = tt
-version-none (Some text) part room size all wide sized none is = λ rest starts.
-    let whole : length text ≡ 3 + length rest = ap length starts ∙ length-append version_line rest in
-    let long : 3 ≤ length part = omega (arith, all, sized, whole) in
-    let split : length part ≡ suc (suc (suc (length part - 3))) = omega arith in
-    let first : part ≡ take (suc (suc (suc (length part - 3)))) (version_line ++ rest) =
-    is ∙ ap (λ n. take n text) split ∙ ap (take (suc (suc (suc (length part - 3))))) starts in
-    none (take (length part - 3) rest) first

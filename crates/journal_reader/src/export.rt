@@ -1,5 +1,5 @@
 //! The records of journals, read again one journal after another, and their feed lines, written in blocks.
-ghost use Rattle.std.specs.Prelude.{◌≡◌, ◌<◌, [], length, IfErr, IfOk, true, false};
+ghost use Rattle.std.specs.Prelude.{◌≡◌, [], length, IfErr, IfOk, true, false};
 ghost use Rattle.issuer_base.specs.OutsideFaults.{CountsFaults};
 ghost use Rattle.shard_book.specs.Loads.{IsOnlyRead};
 ghost use Rattle.host_loading.specs.Loading.{AreOnlyRead};

@@ -5,8 +5,7 @@ use Rattle.clearing_check.specs.declared.filed.Filed.{Filed}
 use Rattle.clearing_check.specs.Records.{has_atc, certify, certified}
 use Rattle.std.proofs.lemmas.List.{length-set}
 use Rattle.clearing_check.specs.Inside.{AreFiled}
-use Rattle.clearing_check.specs.OpenCounts.{CountOpens}
-use Rattle.clearing_check.proofs.Opens.{numbers-certified}
+use Rattle.clearing_check.proofs.Numbers.{numbers-certified}
 use Rattle.clearing_check.proofs.FirstPlace.{certify-at, certify-none}
 use Rattle.clearing_check.proofs.filed_records.FiledRecords.certify_at.Goals as goal
 
@@ -19,33 +18,12 @@ invariant_of-self c =
     let old = c.self.invariant in
     let same = length-set items n (certified (get_or items n found)) in
     let few = old.few in
-    let block_size = old.block_size in
-    let group_size = old.group_size in
-    let filed : AreFiled (record {
-      records = after;
-      pages = c.self.inside.pages;
-      blocks = c.certify.new.self;
-      groups = c.certify-then-number-len.new.self;
-    }) =
+    let filed : AreFiled (record { records = after; pages = c.self.inside.pages }) =
     record {
       few = omega (arith, few, same);
       numbers = numbers-certified c.self.inside.pages items n found old.numbers;
-      block_size = c.certify.ensures.size ∙ block_size;
-      group_size = c.certify-then-number-len.ensures.size ∙ group_size;
-      blocks = subst (λ (records : List Filed). CountOpens c.certify.new.self
-          (set records n (certified (get_or records n found))))
-          c.as_slice.ensures.value (c.certify.ensures.counts found);
-      groups = subst (λ (records : List Filed). CountOpens c.certify-then-number-len.new.self
-          (set records n (certified (get_or records n found))))
-          c.as_slice-then-number-len.ensures.value (c.certify-then-number-len.ensures.counts found);
     } in
-    subst (λ (records : List Filed). AreFiled
-    (record {
-      records = records;
-      pages = c.self.inside.pages;
-      blocks = c.certify.new.self;
-      groups = c.certify-then-number-len.new.self;
-    }))
+    subst (λ (records : List Filed). AreFiled (record { records = records; pages = c.self.inside.pages }))
     (ap (λ (x : Filed). set items n (certified x)) (sym c.index_mut.ensures.value)) filed
 
 pub returns-then-number-len : goal.returns-then-number-len

@@ -1,9 +1,8 @@
--- The pages have the number of the first record of each ATC, and the counts the record if it is open.
+-- The pages have the number of the first record of each ATC.
 use Rattle.std.proofs.Common.{◌≡◌, ◌+◌, ◌<◌, List, ◌++◌, ◌∷◌, [], length, ap, sym, ◌∙◌, subst, arith}
 use Rattle.std.proofs.lemmas.List.{length_push}
 use Rattle.clearing_check.specs.declared.filed.Filed.{Filed}
 use Rattle.clearing_check.specs.Inside.{AreFiled}
-use Rattle.clearing_check.specs.OpenCounts.{CountOpens}
 use Rattle.clearing_check.proofs.Numbers.{numbers-push}
 use Rattle.clearing_check.proofs.filed_records.FiledRecords.push.Goals as goal
 
@@ -18,18 +17,10 @@ invariant_of-self-2 c =
     let few : length (records ++ c.args.filed ∷ []) < 4_294_967_296 =
     (let few = c.in_ok-slot.ensures.few in let len = c.len.ensures in
     omega (arith, few, len, length_push records c.args.filed)) in
-    subst (λ (records : List Filed). AreFiled
-    (record { records = records; pages = c.set_first.new.self; blocks = c.add.new.self; groups = c.add-2.new.self }))
-    (sym added)
+    subst (λ (records : List Filed). AreFiled (record { records = records; pages = c.set_first.new.self })) (sym added)
     (record {
       few = few;
       numbers = numbers-push c.self.inside.pages c.set_first.new.self records c.args.filed
           c.in_ok-slot.slot old.numbers next
           c.in_ok-set_first.ensures.set;
-      block_size = c.add.ensures.size ∙ c.make_room.ensures.size ∙ old.block_size;
-      group_size = c.add-2.ensures.size ∙ c.make_room-2.ensures.size ∙ old.group_size;
-      blocks = subst (λ (items : List Filed). CountOpens c.add.new.self (items ++ c.args.filed ∷ []))
-          (c.as_slice-3.ensures.value ∙ c.reserve.ensures.items) c.add.ensures.counts;
-      groups = subst (λ (items : List Filed). CountOpens c.add-2.new.self (items ++ c.args.filed ∷ []))
-          (c.as_slice-4.ensures.value ∙ c.reserve.ensures.items) c.add-2.ensures.counts;
     })
