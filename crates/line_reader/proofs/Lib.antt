@@ -3,3 +3,4 @@ pub mod Pieces
 pub mod InLine
 pub mod LineLaws
 pub mod WholeLines
+mod Packing

@@ -3,3 +3,4 @@ pub mod Lines
 pub mod Reading
 pub mod NextLine
 pub mod Window
+pub mod KeptLines

@@ -1,5 +1,5 @@
 //! A reader of an input's lines, one at a time, within the limits of an input.
-ghost use Rattle.std.specs.Prelude.{◌≡◌, ℕ, ◌-◌, ◌<◌, ◌≤◌, List, true, false, IfOk, MatchBool, if◌then◌else◌, ◌==◌};
+ghost use Rattle.std.specs.Prelude.{◌≡◌, ℕ, ◌-◌, ◌≤◌, List, true, false, IfOk, MatchBool, if◌then◌else◌, ◌==◌};
 ghost use Rattle.issuer_base.specs.OutsideFaults.{CountsFaults};
 ghost use Rattle.line_reader.specs.declared.limits.TheConstants.{BUFFER_BYTES, MAX_BUFFER_BYTES, MAX_BYTES, MAX_LINES};
 ghost use Rattle.line_reader.specs.Lines.{IsFirstNewline, IsUnbroken};

@@ -22,9 +22,6 @@ pub record HasCalled (issuer : Setup) (lines texts : List (List ℕ)) (claims : 
   pub texts_are : texts ≡ map printed answers
 
 module _ (issuer : Setup) (lines : List (List ℕ)) (claims : ClaimView) (logs : TurnView LogItem LogHead) where
-  pub called-none : (texts : List (List ℕ)) → texts ≡ [] → HasCalled issuer (take 0 lines) texts claims logs claims logs
-  called-none texts none = record { answers = []; calls = (refl, refl); texts_are = none }
-
   -- one line more was answered
   pub called-line : (place : ℕ) (line : List ℕ) (texts all : List (List ℕ)) (answer : Answer) (claims_then : ClaimView)
       (logs_then : TurnView LogItem LogHead) (claims_now : ClaimView) (logs_now : TurnView LogItem LogHead) → slice_get lines place ≡ Some line

@@ -1,6 +1,5 @@
 -- The lemmas of this crate.
 mod Lists
-mod Packing
 mod AnsweredBoth
 mod Turning
 mod Serving

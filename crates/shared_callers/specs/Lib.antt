@@ -1,5 +1,4 @@
 -- The definitions that the contracts of this crate cite: callers, their lanes, and the lines that they were dealt.
-pub mod KeptLines
 pub mod DueTexts
 pub mod Parts
 pub mod OneLane

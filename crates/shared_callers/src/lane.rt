@@ -7,13 +7,13 @@ ghost use Rattle.shared_laws.specs.Authorising.{Authorises};
 ghost use Rattle.host_calls.specs.Passes.{claims_of, logs_of, IsFree};
 ghost use Rattle.shared_callers.specs.declared.half_block.TheConstants.{HALF_LINES};
 
-use crate::packed::PackedLines;
 use crate::part::Part;
 use crate::texts::AnswerTexts;
 use crossbeam_utils::CachePadded;
 use host_calls::{Host, Pass};
 use issuer_base::{Answer, Gate, KEPT_BYTES, MAX_CHIP_BYTES, NoMemory, Refusal, Store};
 use line_checks::{LinesAhead, LookedUp, MOST_AHEAD, look_up};
+use line_reader::PackedLines;
 use std::alloc::Global;
 use std::sync::Wait;
 

@@ -7,7 +7,6 @@ mod half_block;
 mod lane;
 mod lanes;
 mod load;
-mod packed;
 mod part;
 mod round;
 mod texts;

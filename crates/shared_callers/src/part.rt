@@ -3,9 +3,9 @@ ghost use Rattle.std.specs.Prelude.{◌≡◌, ◌≤◌, [], IfOk};
 ghost use Rattle.shared_callers.specs.declared.half_block.TheConstants.{HALF_LINES};
 
 use crate::lane::Lane;
-use crate::packed::PackedLines;
 use crate::texts::AnswerTexts;
 use issuer_base::{KEPT_BYTES, NoMemory};
+use line_reader::PackedLines;
 use std::alloc::Global;
 use std::mem;
 

@@ -5,11 +5,11 @@ ghost use Rattle.line_blocks.specs.declared.block.TheConstants.{BLOCK_LINES};
 ghost use Rattle.shared_callers.specs.DueTexts.{MovesFirst};
 ghost use Rattle.shared_callers.specs.declared.half_block.TheConstants.{HALF_LINES};
 
-use crate::packed::PackedLines;
 use answer_text::{LINE_ROOM, write_answer};
 use arrayvec::ArrayVec;
 use issuer_base::{Answer, NoMemory};
 use line_blocks::Block;
+use line_reader::PackedLines;
 use std::alloc::Global;
 use std::marker::Model;
 

@@ -8,10 +8,9 @@ use Rattle.issuer_setup.specs.IssuerSetup.{Setup}
 use Rattle.line_checks.specs.declared.looked_up.LookedUp.{LookedUp}
 use Rattle.line_checks.specs.LookedUp.{IsLookedUpAgain, IsReady as IsReadyToCheck}
 use Rattle.shard_book.proofs.ReadAhead.{all-ready, looked-again}
-use Rattle.standby_node.specs.declared.feed_lines.FeedLines.{FeedLines}
 use Rattle.standby_node.specs.declared.line.ReadLine.{ReadLine}
 use Rattle.standby_node.specs.declared.line.ReadLine.TheVariants.{Bad, Behind, NoRecord, Record}
-use Rattle.standby_node.specs.ReadLines.{AreReady, IsNoneAhead, IsReady}
+use Rattle.standby_node.specs.ReadLines.{IsReady}
 
 module _ (issuer : Setup) where
   -- ---- nothing was looked up
@@ -56,9 +55,3 @@ module _ (issuer : Setup) where
   lines-ready [] (f ∷ found) is = absurd is
   lines-ready (line ∷ lines) [] is = absurd is
   lines-ready (line ∷ lines) (f ∷ found) is = All-cons (IsReadyToCheck issuer) f found (line-ready line f is.0) (lines-ready lines found is.1)
-
-  -- no line was read ahead
-  pub ready-none : (ahead : FeedLines) → IsNoneAhead ahead → AreReady issuer ahead
-  ready-none ahead none =
-      subst (λ (lines : List ReadLine). AllZip (IsReady issuer) lines ahead.found.items) (sym none.no_lines)
-      (subst (AllZip (IsReady issuer) []) (sym none.none_found) tt)

@@ -4,11 +4,12 @@ ghost use Rattle.line_checks.specs.declared.lines_ahead.TheConstants.{MOST_AHEAD
 ghost use Rattle.standby_node.specs.KeptTexts.{HaveTexts};
 
 use crate::line::{ReadLine, add_answers, look_up_line};
-use crate::texts::PackedTexts;
 use arpc_methods::{AnswerBatch, MadeAhead};
+use feed_text::MOST_FEED_BYTES;
 use issuer_base::{NoMemory, Refusal};
 use issuer_setup::Issuer;
 use line_checks::{LookedUp, MOST_AHEAD, check_in_lanes};
+use line_reader::PackedLines;
 use std::alloc::Global;
 
 /// Whole lines of a feed that were read ahead of their turns, at most [`MOST_AHEAD`], and what was looked up for each.
@@ -17,7 +18,7 @@ pub struct FeedLines {
     lines: Vec<ReadLine>,
 
     /// For each line the text of its record, with its newline. Of a line without a record no text counts.
-    record_texts: PackedTexts,
+    record_texts: PackedLines<MOST_FEED_BYTES>,
     found: Vec<Result<LookedUp, Refusal>>,
 
     /// The answers of the records, by the indices of the lines, once they are checked.
@@ -25,8 +26,8 @@ pub struct FeedLines {
     ghost room: { MOST_AHEAD ≤ vec_capacity lines },
     ghost room_found: { MOST_AHEAD ≤ vec_capacity found },
     ghost room_texts: { MOST_AHEAD ≤ record_texts.room },
-    ghost each: { length record_texts.texts ≡ length lines.items },
-    ghost have_texts: { HaveTexts lines.items record_texts.texts },
+    ghost each: { length record_texts.lines ≡ length lines.items },
+    ghost have_texts: { HaveTexts lines.items record_texts.lines },
 }
 
 impl FeedLines {
@@ -43,7 +44,7 @@ impl FeedLines {
     {
         let lines = Vec::with_capacity(alloc, MOST_AHEAD)?;
         let found = Vec::with_capacity(alloc, MOST_AHEAD)?;
-        let record_texts = PackedTexts::new(alloc)?;
+        let record_texts = PackedLines::new(alloc, MOST_AHEAD)?;
         Ok(FeedLines {
             lines,
             record_texts,
@@ -83,7 +84,7 @@ impl FeedLines {
         requires { place < length self.now.lines.items }
         ensures { (line : ReadLine) → slice_get self.now.lines.items place ≡ Some line → HasText line result.now }
     {
-        self.record_texts.text(place)
+        self.record_texts.line(place)
     }
 
     /// Adds a line that was read, with the text of its record without the newline, and looks the record up.
@@ -96,7 +97,7 @@ impl FeedLines {
         ensures ready { AreReady issuer.now self.new }
     {
         self.found.push_reserved(look_up_line(issuer, &line));
-        self.record_texts.add(text);
+        self.record_texts.add_ended(text);
         self.lines.push_reserved(line);
     }
 

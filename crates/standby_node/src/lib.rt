@@ -5,7 +5,6 @@ mod feed_lines;
 mod laws;
 mod line;
 mod standby;
-mod texts;
 
 pub use feed_lines::FeedLines;
 pub use laws::{a_line_does_one_thing, a_standby_follows_its_primary, a_stream_does_one_thing};

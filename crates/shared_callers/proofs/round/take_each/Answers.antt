@@ -3,7 +3,7 @@ use Rattle.std.proofs.Common.{◌≡◌, length, get_or, arith, sym, ◌∙◌, 
 use Rattle.std.proofs.Math.Seq.{map-set_same}
 use Rattle.shared_callers.specs.OneLane.{answer_texts}
 use Rattle.shared_callers.specs.Parts.{lines_of, texts_of}
-use Rattle.shared_callers.specs.KeptLines.{KeptLines}
+use Rattle.line_reader.specs.KeptLines.{KeptLines}
 use Rattle.shared_callers.proofs.HandingOver.{left-there, moved-all, places-more, rooms-kept, rooms-there}
 use Rattle.shared_callers.proofs.Lists.{left-more, maps-long, moved-more}
 use Rattle.shared_callers.proofs.round.take_each.Goals as goal

@@ -4,7 +4,7 @@ use Rattle.std.proofs.lemmas.List.Elements.{All-set}
 use Rattle.std.proofs.lemmas.Option.{slice_get_read}
 use Rattle.std.proofs.Math.Seq.{map-set_same}
 use Rattle.std.specs.List.{slice_get}
-use Rattle.shared_callers.specs.KeptLines.{KeptLines}
+use Rattle.line_reader.specs.KeptLines.{KeptLines}
 use Rattle.shared_callers.specs.declared.part.Part.{Part}
 use Rattle.shared_callers.proofs.Turning.{part-room, waiting-dealt, due-same, still-dealt, still-due}
 use Rattle.shared_callers.proofs.half_block.HalfBlock.deal.Goals as goal

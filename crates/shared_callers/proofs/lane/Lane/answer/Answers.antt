@@ -8,7 +8,7 @@ use Rattle.host_calls.specs.Passes.{claims_of, logs_of}
 use Rattle.host_calls.specs.declared.pass.Pass.{Pass}
 use Rattle.line_checks.specs.LookedUp.{IsLookUp}
 use Rattle.shared_callers.specs.DueTexts.{DueTexts}
-use Rattle.shared_callers.specs.KeptLines.{KeptLines}
+use Rattle.line_reader.specs.KeptLines.{KeptLines}
 use Rattle.shared_callers.proofs.Calling.{HasCalled, called-line}
 use Rattle.shared_callers.proofs.LooksAhead.{ahead-there, there}
 use Rattle.shared_callers.proofs.lane.Lane.answer.Given.{Over}

@@ -4,8 +4,9 @@ use Rattle.std.proofs.lemmas.Slice.Zip.{AllZip-long, all_zipped_more}
 use Rattle.std.specs.List.{AllZip}
 use Rattle.standby_node.specs.declared.line.ReadLine.{ReadLine}
 use Rattle.line_reader.specs.Lines.{ended}
-use Rattle.standby_node.specs.KeptTexts.{HaveTexts, KeptTexts}
+use Rattle.standby_node.specs.KeptTexts.{HaveTexts}
 use Rattle.standby_node.specs.ReadLines.{IsReady}
+use Rattle.line_reader.specs.KeptLines.{KeptLines}
 use Rattle.standby_node.proofs.Packing.{have-push}
 use Rattle.standby_node.proofs.feed_lines.FeedLines.add.Goals as goal
 
@@ -26,9 +27,9 @@ pub invariant_of-self-clause-have_texts : goal.invariant_of-self-clause-have_tex
 invariant_of-self-clause-have_texts c =
     let old = c.args.self.now in
     let lines : List ReadLine = old.lines.items in
-    let texts : List (List ℕ) = old.record_texts.texts in
+    let texts : List (List ℕ) = old.record_texts.lines in
     let text : List ℕ = ended c.args.text.now in
-    let texts_are : c.add.new.self.texts ≡ texts ++ text ∷ [] = ap (λ (kept : KeptTexts). kept.texts) c.add.ensures in
-    subst (λ (lines : List ReadLine). HaveTexts lines c.add.new.self.texts) (sym c.push_reserved-2.ensures.items)
+    let texts_are : c.add_ended.new.self.lines ≡ texts ++ text ∷ [] = ap (λ (kept : KeptLines). kept.lines) c.add_ended.ensures in
+    subst (λ (lines : List ReadLine). HaveTexts lines c.add_ended.new.self.lines) (sym c.push_reserved-2.ensures.items)
     (subst (HaveTexts (lines ++ c.args.line ∷ [])) (sym texts_are)
     (have-push lines texts c.args.line text old.each old.have_texts c.requires.text.0))

@@ -2,10 +2,10 @@
 use Rattle.std.proofs.Common.{rules, ◌≡◌, ◌≤◌, [], ◌∷◌, ◌++◌, length, ℕ, ◌+◌, List, map, sym, ap, ap₂, ◌∙◌, arith, vec_len, vec_capacity}
 use Rattle.std.proofs.lemmas.List.{length-map, map-append}
 use Rattle.std.proofs.Math.Nat.{mul-le-mul_right}
-use Rattle.shared_callers.specs.declared.packed.Span.{Span}
-use Rattle.shared_callers.specs.KeptLines.{KeptLines, line_at}
-use Rattle.shared_callers.proofs.Packing.{last-line, lines-stay}
-use Rattle.shared_callers.proofs.packed.PackedLines.add.Goals as goal
+use Rattle.line_reader.specs.declared.packed.Span.{Span}
+use Rattle.line_reader.specs.KeptLines.{KeptLines, line_at}
+use Rattle.line_reader.proofs.Packing.{last-line, lines-stay}
+use Rattle.line_reader.proofs.packed.PackedLines.add.Goals as goal
 
 pub unwrap-requires : goal.unwrap-requires
 unwrap-requires g c =

@@ -1,6 +1,6 @@
--- Lines that are kept in one buffer.
+-- Lines in one buffer, one after another.
 use Rattle.std.specs.Prelude.{ℕ, ◌-◌, ◌≤◌, List, length, slice_range}
-use Rattle.shared_callers.specs.declared.packed.Span.{Span}
+use Rattle.line_reader.specs.declared.packed.Span.{Span}
 
 -- the lines, in their order, and how many there may be
 pub record KeptLines : Type 0 where

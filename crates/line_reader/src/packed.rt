@@ -1,7 +1,8 @@
 //! Lines in one buffer, one after another.
 ghost use Rattle.std.specs.Prelude.{◌≡◌, ◌<◌, ◌≤◌, [], ◌∷◌, ◌++◌, length, slice_get, Some, IfOk};
-ghost use Rattle.shared_callers.specs.declared.half_block.TheConstants.{HALF_LINES};
+ghost use Rattle.line_reader.specs.Lines.{ended};
 
+use crate::limits::NEWLINE;
 use issuer_base::NoMemory;
 use std::alloc::Global;
 use std::marker::Model;
@@ -13,19 +14,19 @@ pub(crate) struct Span {
     end: usize,
 }
 
-/// Lines of at most `MOST` bytes in one buffer, one after another, and room for more. Who reads them in their order
-/// reads the buffer from its start on, and meets no cache line twice.
+/// Lines of at most `MOST` bytes in one buffer, one after another, and room for more. A caller that reads them in their
+/// order reads the buffer from its start on, each cache line once.
 ///
 /// A contract sees the lines, and how many there may be.
 #[derive(Drop)]
-pub(crate) struct PackedLines<const MOST: usize> {
+pub struct PackedLines<const MOST: usize> {
     bytes: Vec<u8>,
     spans: Vec<Span>,
 }
 
 impl<const MOST: usize> Model for PackedLines<MOST> {
     ghost use Rattle.std.specs.Prelude.{◌≤◌, ◌*◌, All, length, map, vec_capacity};
-    ghost use Rattle.shared_callers.specs.KeptLines.{KeptLines, LiesIn, line_at};
+    ghost use Rattle.line_reader.specs.KeptLines.{KeptLines, LiesIn, line_at};
 
     ghost Value = { KeptLines };
 
@@ -42,8 +43,8 @@ impl<const MOST: usize> Model for PackedLines<MOST> {
 
 impl<const MOST: usize> PackedLines<MOST> {
     /// No lines, and room for `room` lines. Only this call allocates.
-    pub(crate) fn new(alloc: Global, room: usize) -> Result<PackedLines<MOST>, NoMemory>
-        requires { (room ≤ HALF_LINES) × (MOST ≤ 4096) }
+    pub fn new(alloc: Global, room: usize) -> Result<PackedLines<MOST>, NoMemory>
+        requires { (room ≤ 65_536) × (MOST ≤ 4_096) }
         ensures { IfOk result (λ packed. packed ≡ record { lines = []; room = room }) }
     {
         Ok(PackedLines {
@@ -53,7 +54,7 @@ impl<const MOST: usize> PackedLines<MOST> {
     }
 
     /// How many lines there are.
-    pub(crate) fn len(&self) -> usize
+    pub fn len(&self) -> usize
         ensures count { result ≡ length self.now.lines }
         ensures within { result ≤ self.now.room }
     {
@@ -61,7 +62,7 @@ impl<const MOST: usize> PackedLines<MOST> {
     }
 
     /// Appends a line.
-    pub(crate) fn add(&mut self, line: &[u8])
+    pub fn add(&mut self, line: &[u8])
         requires room { length self.old.lines < self.old.room }
         requires short { length line.now ≤ MOST }
         ensures { self.new ≡ record { lines = self.old.lines ++ line.now ∷ []; room = self.old.room } }
@@ -74,8 +75,23 @@ impl<const MOST: usize> PackedLines<MOST> {
         });
     }
 
+    /// Appends a line, and the newline that ends it.
+    pub fn add_ended(&mut self, line: &[u8])
+        requires room { length self.old.lines < self.old.room }
+        requires short { length line.now < MOST }
+        ensures { self.new ≡ record { lines = self.old.lines ++ ended line.now ∷ []; room = self.old.room } }
+    {
+        let start = self.bytes.len();
+        self.bytes.extend_from_slice(line).unwrap();
+        self.bytes.push_reserved(NEWLINE);
+        self.spans.push_reserved(Span {
+            start,
+            end: self.bytes.len(),
+        });
+    }
+
     /// The line at this index.
-    pub(crate) fn line(&self, place: usize) -> &[u8]
+    pub fn line(&self, place: usize) -> &[u8]
         requires { place < length self.now.lines }
         ensures line { slice_get self.now.lines place ≡ Some result.now }
         ensures short { length result.now ≤ MOST }
@@ -85,7 +101,7 @@ impl<const MOST: usize> PackedLines<MOST> {
     }
 
     /// Removes all lines.
-    pub(crate) fn clear(&mut self)
+    pub fn clear(&mut self)
         ensures { self.new ≡ record { lines = []; room = self.old.room } }
     {
         self.bytes.clear();
