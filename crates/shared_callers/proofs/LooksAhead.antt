@@ -1,21 +1,8 @@
 -- The lines of a lane that were looked up ahead: one more of them, and each by its index.
 use Rattle.std.proofs.Common.{◌≡◌, ℕ, ◌+◌, ◌<◌, zero, suc, List, [], ◌∷◌, ◌++◌, length, take, drop, get_or, Option, None, Some, IsSome, refl, sym, subst, ◌∙◌, arith}
 use Rattle.std.proofs.lemmas.Option.{same_Some, none-some, slice_get-get_or}
-use Rattle.std.specs.Prelude.{◌≢◌, IfOk, IfErr, Result, Ok, Err}
 use Rattle.std.specs.List.{slice_get, AllZip}
 use Rattle.std.specs.Option.{option_map}
-use Rattle.issuer_base.specs.declared.answer.Refusal.{Refusal}
-use Rattle.issuer_base.specs.declared.answer.Refusal.TheVariants.{BadCryptogram}
-use Rattle.issuer_setup.specs.IssuerSetup.{Setup}
-use Rattle.line_checks.specs.LookedUp.{IsLookUp, IsSought}
-use Rattle.line_checks.specs.Reading.{reading}
-use Rattle.line_checks.specs.declared.looked_up.LookedUp.{LookedUp}
-
--- what a look-up gives, by its two clauses
-pub look-up-is : (issuer : Setup) (line : List ℕ) (found : Result LookedUp Refusal) → IfOk found (IsSought issuer line)
-    → IfErr found (λ refusal. (reading issuer line ≡ Err refusal) × (refusal ≢ BadCryptogram)) → IsLookUp issuer line found
-look-up-is issuer line (Ok sought) its refused = its
-look-up-is issuer line (Err refusal) its refused = refused
 
 module _ {A B : Type 0} (R : A → B → Type 0) where
   next-first : (xs : List A) (x : A) (ys : List B) (y : B) → slice_get xs (length ys) ≡ Some x → AllZip R (take (length ys) xs) ys → R x y

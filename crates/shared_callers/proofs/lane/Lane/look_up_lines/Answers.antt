@@ -8,7 +8,8 @@ use Rattle.line_checks.specs.LookedUp.{IsLookUp, IsReady}
 use Rattle.line_checks.specs.declared.looked_up.LookedUp.{LookedUp}
 use Rattle.line_checks.proofs.LookUps.{all-ready}
 use Rattle.shared_callers.specs.OneLane.{looked_up_lines}
-use Rattle.shared_callers.proofs.LooksAhead.{look-up-is, next-ahead}
+use Rattle.host_calls.proofs.LookUps.{look-up-is}
+use Rattle.shared_callers.proofs.LooksAhead.{next-ahead}
 use Rattle.shared_callers.proofs.lane.Lane.look_up_lines.Goals as goal
 
 pub check-requires : goal.check-requires
