@@ -1,7 +1,7 @@
 """Whether a program is the one that a record of proof names."""
 import hashlib
 import json
-from typing import Any
+from typing import Any, NamedTuple
 
 from issuer_host.facts.paths import PROGRAM, RECORD
 
@@ -25,6 +25,19 @@ def read_record(path: str = RECORD) -> dict[str, Any]:
     except (OSError, ValueError):
         return {}
     return found if isinstance(found, dict) else {}
+
+
+class ProgramIdentity(NamedTuple):
+    """Which program there is at a path."""
+
+    sha256: str
+    # Whether the record of the proof names it.
+    is_proved: bool
+
+
+def program_at(path: str) -> ProgramIdentity:
+    found = sum_of(path)
+    return ProgramIdentity(found, found == read_record().get("program"))
 
 
 def is_proved(program: str = PROGRAM, record: str = RECORD) -> bool:

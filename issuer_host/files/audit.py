@@ -56,11 +56,12 @@ class Audit:
         order = f',"order":{json.dumps(number)}' if number else ""
         self.add(f'"by":"{by}","what":"{line[:1]}",{place_of(answer)},"card":"{pan and masked(pan)}"{more}{order}')
 
-    def started(self, command: str, uid: int, why: str = "") -> None:
-        """A start was handed over to the program, or refused. One that can't be noted is told by nobody."""
+    def started(self, command: str, uid: int, why: str = "", program: str = "") -> None:
+        """A start was handed over to a program of a SHA-256, or refused. One that can't be noted is told by nobody."""
         self.is_failing = True
         said: dict[str, object] = {"by": self.name, "what": "refused" if why else "start", "command": command}
-        self.note({**said, "uid": uid, **({"why": why} if why else {})})
+        more = {name: value for name, value in (("program", program), ("why", why)) if value}
+        self.note({**said, "uid": uid, **more})
 
     def note(self, said: "dict[str, object]") -> None:
         self.add(json.dumps(said, separators=(",", ":"))[1:-1])

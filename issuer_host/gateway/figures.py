@@ -11,6 +11,7 @@ from typing import Callable, NamedTuple, Optional, Union
 
 from issuer_host.facts.answers import DECISIONS, Kind, REFUSED, kind_of
 from issuer_host.facts.journals import journals_of
+from issuer_host.facts.proof import ProgramIdentity
 from issuer_host.gateway.admission import REASONS
 from issuer_host.gateway.log import tell
 from issuer_host.gateway.mapping import REFUSALS
@@ -41,6 +42,7 @@ OF_HOSTS = {
     "host_starts": ("counter", "Starts of the host"),
     "host_ends": ("counter", "Ends of the host by status; a signal is negative"),
     "active": ("gauge", "1 if the partition's host answers"),
+    "program": ("gauge", "The program of the partition's last host, by its SHA-256, and 1 if it is the proved one"),
     "host_start_seconds": ("gauge", "From the host's last start to its first answer"),
     "host_ready_time_seconds": ("gauge", "When the host gave its first answer, in seconds of Unix"),
     "orders": ("counter", "Lines of orders by what became of them"),
@@ -164,8 +166,14 @@ class PartitionFigures:
     def started(self) -> None:
         self.figures.count("host_starts", self.name)
 
-    def loaded(self, seconds: float) -> None:
+    def loaded(self, seconds: float, program: Optional[ProgramIdentity]) -> None:
         self.figures.host_up[self.partition] = 1
+        self.figures.labelled["program"] = {
+            labels: value for labels, value in self.figures.labelled["program"].items() if labels[0] != self.name
+        }
+        if program is not None:
+            labels = self.name, ("sha256", program.sha256), ("proved", str(int(program.is_proved)))
+            self.figures.labelled["program"][labels] = 1
         self.figures.set("host_start_seconds", self.partition, round(seconds, 3))
         self.figures.set("host_ready_time_seconds", self.partition, round(time.time(), 3))
         tell(f"partition {self.partition}: the host is ready after {seconds:.2f} s")

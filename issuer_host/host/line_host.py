@@ -2,6 +2,7 @@
 from collections.abc import Sequence
 from typing import NamedTuple, Optional, Protocol
 
+from issuer_host.facts.proof import ProgramIdentity
 from issuer_host.host.event_loop import Action, Loop
 from issuer_host.host.line_queue import LineQueue
 from issuer_host.host.lines import Entry, Line
@@ -55,8 +56,8 @@ class HostFigures(Protocol):
     def started(self) -> None:
         """A run was started."""
 
-    def loaded(self, seconds: float) -> None:
-        """A run has loaded the journals in so long."""
+    def loaded(self, seconds: float, program: Optional[ProgramIdentity]) -> None:
+        """A run of a program has loaded the journals in so long."""
 
     def ended(self, status: int) -> None:
         """A run ended; a signal is negative."""
@@ -170,7 +171,8 @@ class LineHost:
 
     def loaded(self, seconds: float) -> None:
         self.is_loaded = True
-        self.figures.loaded(seconds)
+        run = self.supervisor.run
+        self.figures.loaded(seconds, run.program() if run is not None else None)
         self.reader.loaded()
         self.watcher.loaded()
         self.flush()

@@ -35,7 +35,9 @@ def run(
     done = subprocess.run(command, input=given, capture_output=True, text=True, check=False)
     if done.returncode:
         last = done.stdout.strip().rpartition("\n")[2]
-        said = done.stderr.strip() or f"{last}: {meaning_of(done.returncode)}"
+        # (the error output may also say that another program was named)
+        stopped = f"{last}: {meaning_of(done.returncode)}" if last or not done.stderr.strip() else ""
+        said = "; ".join(filter(None, (done.stderr.strip(), stopped)))
         raise Failed(done.returncode, said)
     return done.stdout
 

@@ -5,9 +5,11 @@ import fcntl
 import os
 import subprocess
 from collections.abc import Callable, Sequence
+from typing import Optional
 
 from issuer_host.facts.answers import ANSWERS
 from issuer_host.facts.limits import RUN_BYTES, RUN_LINES
+from issuer_host.facts.proof import ProgramIdentity, program_at
 from issuer_host.host.event_loop import Loop
 
 PIPE_BYTES = 1 << 20
@@ -151,6 +153,13 @@ class HostProcess:
         text = lines[-1].decode("ascii", errors="replace") if lines else ""
         if text and text.partition(" ")[0] not in ANSWERS:
             self.stop_line = text
+
+    def program(self) -> Optional[ProgramIdentity]:
+        """Returns which program runs; None if it can't be seen."""
+        try:
+            return program_at(f"/proc/{self.process.pid}/exe")
+        except OSError:
+            return None
 
     def kill(self) -> None:
         self.process.kill()

@@ -79,11 +79,11 @@ def why_unproved() -> Optional[str]:
     return why
 
 
-def why_changed(record: dict[str, Any]) -> Optional[str]:
+def why_changed(record: dict[str, Any], program: str = PROGRAM) -> Optional[str]:
     """Returns what isn't as the record of the proof says: the program, a source or the toolchain; None if all is."""
-    if sum_or_word(PROGRAM) != record.get("program"):
+    if sum_or_word(program) != record.get("program"):
         return NOT_THE_PROVED
-    proved, sources = record["sources"], sources_of(HOME)
+    proved, sources = record.get("sources", {}), sources_of(HOME)
     changed = [name for name in {**proved, **sources} if proved.get(name) != sources.get(name)]
     if changed:
         more = f" and {len(changed) - 1} more" if len(changed) > 1 else ""

@@ -37,6 +37,12 @@ class Peer:
         said = connection.getsockopt(socket.SOL_SOCKET, socket.SO_PEERCRED, CREDENTIALS.size)
         self.uid: int = CREDENTIALS.unpack(said)[1]
         self.text = b""
+        # How many of its orders have no reply yet.
+        self.owed = 0
+
+    def reply_to_order(self, text: str) -> None:
+        self.owed -= 1
+        self.reply(text)
 
     def reply(self, text: str) -> None:
         """Sends a line, unless the peer is gone or doesn't read."""
@@ -72,15 +78,24 @@ class OrderSocket:
             peer = Peer(self.listening.accept()[0])
         except OSError:
             return
-        if peer.uid not in (0, os.geteuid()) or len(self.peers) >= CONNECTIONS:
+        if peer.uid not in (0, os.geteuid()) or not self.has_room():
             peer.reply(f"{NOT_DONE} done: this user may not order, or too many do")
             peer.connection.close()
             return
         self.peers[peer.connection.fileno()] = peer
         self.loop.add_handler(peer.connection.fileno(), self.read, self.loop.READ)
 
+    def has_room(self) -> bool:
+        """Whether one more peer may connect. Among too many the one that has been idle for longest is closed."""
+        if len(self.peers) >= CONNECTIONS:
+            idle = next((number for number, peer in self.peers.items() if not peer.owed), None)
+            if idle is not None:
+                self.close(idle)
+        return len(self.peers) < CONNECTIONS
+
     def read(self, number: int, _: int) -> None:
-        peer = self.peers[number]
+        # (the one that was heard last is the last one)
+        peer = self.peers[number] = self.peers.pop(number)
         try:
             piece = peer.connection.recv(MAX_LINE)
         except BlockingIOError:
@@ -104,7 +119,8 @@ class OrderSocket:
         if order is None:
             peer.reply(f"{NOT_DONE} done: the line is no order of the form Q or S with a number")
             return
-        self.on_order(order, peer.uid, peer.reply)
+        peer.owed += 1
+        self.on_order(order, peer.uid, peer.reply_to_order)
 
     def close(self, number: int) -> None:
         peer = self.peers.pop(number)

@@ -24,8 +24,9 @@ from typing import NamedTuple
 from issuer_host import INSTALLED
 from issuer_host.facts import version
 from issuer_host.facts.paths import BUILD, HOME
-from issuer_host.facts.proof import is_proved
+from issuer_host.facts.proof import is_proved, read_record
 from issuer_host.facts.refusal import Refusal, tell
+from issuer_host.launcher.proved_program import why_changed
 from issuer_host.packaging.texts import AFTER_INSTALL, BEFORE_REMOVE, CONTROL, COPYRIGHT, LAUNCHER, OVERRIDES
 from issuer_host.packaging.tree import Tree
 
@@ -97,12 +98,15 @@ def standby_of(unit: str) -> str:
 
 
 def add_program(tree: Tree, built: str) -> None:
-    """Adds the program, if the record of its proof names it."""
+    """Adds the program, if the record of its proof names it and no source changed since."""
     program = os.path.join(built, "issuer")
     record = os.path.join(built, "issuer.proved")
     if not os.path.isfile(program) or not is_proved(program, record):
         what = "has no program with the record of its proof: run ./issuer prove, or name another folder by --from"
         raise Refusal(f"{built} {what}")
+    why = why_changed(read_record(record), program)
+    if why:
+        raise Refusal(f"{why}: run ./issuer prove before a package is made")
     tree.copy(program, f"{PRIVATE}/.build/issuer", 0o755)
     with open(record, encoding="utf-8") as text:
         tree.write(f"{PRIVATE}/.build/issuer.proved", json.dumps(json.load(text), sort_keys=True) + "\n")

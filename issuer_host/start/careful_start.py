@@ -5,7 +5,8 @@ usage: issuer-run [--begin] [--accept-journals] [--node] [--program PATH] [--las
 
 The words from the command on are the program's own; see issuer(1). Before it hands over to the program it checks:
 
-- the program is the one whose proof is recorded beside it, or another that --program names
+- the program is the one whose proof is recorded beside it, and in a tree no source changed since; or another that
+  --program names
 - standard input, output and error output are open
 - the configuration, with its keys, can be opened by this user and root alone
 - if keys of the configuration are wrapped, the token that ISSUER_TOKEN names unwraps them (`deploy/keys`)
@@ -40,14 +41,14 @@ with 75 something failed that passes, as a disk that can't be read for a moment.
 import os
 import sys
 import time
-from collections.abc import Sequence
+from collections.abc import Callable, Sequence
 from typing import NamedTuple, Optional
 
 from issuer_host.facts.commands import COMMANDS, CONFIG, JOURNAL, OVER_JOURNALS, Option, value_of
 from issuer_host.facts.faults import lasts
 from issuer_host.facts.memory import keep_from_others
 from issuer_host.facts.paths import PROGRAM, RECORD
-from issuer_host.facts.proof import is_proved
+from issuer_host.facts.proof import is_proved, sum_of
 from issuer_host.facts.refusal import Refusal, tell
 from issuer_host.facts.statuses import Status
 from issuer_host.files.audit import Audit
@@ -124,14 +125,18 @@ def owners_of(words: Sequence[str]) -> set[int]:
     return found
 
 
-def program_of(start: CarefulStart) -> Optional[str]:
+def nothing_changed() -> Optional[str]:
+    return None
+
+
+def program_of(start: CarefulStart, why_changed: Callable[[], Optional[str]]) -> Optional[str]:
     """Returns the path of the program that is started, or None if there is no proved one."""
     if start.program is not None:
         return start.program
-    if is_proved_soon():
+    why = why_changed() if is_proved_soon() else f"{PROGRAM} isn't the program of a proof that is recorded beside it"
+    if why is None:
         return PROGRAM
-    what = f"{PROGRAM} isn't the program of a proof that is recorded beside it"
-    tell(NAME, f"{what}. Run ./issuer prove, or install the package")
+    tell(NAME, f"{why}. Run ./issuer prove, or install the package")
     return None
 
 
@@ -147,7 +152,7 @@ def is_proved_soon() -> bool:
     return False
 
 
-def hand_over(start: CarefulStart) -> int:
+def hand_over(start: CarefulStart, why_changed: Callable[[], Optional[str]]) -> int:
     """Checks all that there is to check, and becomes the program. It returns only if it doesn't."""
     user = os.getuid()
     os.umask(0o077)
@@ -165,15 +170,15 @@ def hand_over(start: CarefulStart) -> int:
     lines = COMMANDS[words[0]].lines
     if lines and lines.may_be_piped:
         check_input(needed(lines.option, words))
-    program = program_of(start)
+    program = program_of(start, why_changed)
     if program is None:
         return Status.NO_PROGRAM
     check_history(words[0], needed(JOURNAL, words), shards, start.accepts, start.last_run)
-    Audit(needed(JOURNAL, words), NAME).started(words[0], user)
+    Audit(needed(JOURNAL, words), NAME).started(words[0], user, program=sum_of(program))
     os.execv(program, ["issuer", *with_configuration(words, configuration.path_for_program(is_readable))])
 
 
-def run(words: Sequence[str]) -> int:
+def run(words: Sequence[str], why_changed: Callable[[], Optional[str]]) -> int:
     if list(words) in (["--help"], ["-h"]):
         print(__doc__, end="")
         return Status.OK
@@ -181,7 +186,7 @@ def run(words: Sequence[str]) -> int:
     if not start.words or start.words[0] not in OVER_JOURNALS:
         print(__doc__, end="", file=sys.stderr)
         return Status.WORDS
-    return hand_over(start)
+    return hand_over(start, why_changed)
 
 
 def note_refusal(words: Sequence[str], user: int, why: str) -> None:
@@ -192,10 +197,11 @@ def note_refusal(words: Sequence[str], user: int, why: str) -> None:
         Audit(journal, NAME).started(command, user, why)
 
 
-def main(words: Sequence[str]) -> int:
+def main(words: Sequence[str], why_changed: Callable[[], Optional[str]] = nothing_changed) -> int:
+    """Starts the program. `why_changed` says what isn't as it was when that was proved; None if all is."""
     user = os.getuid()
     try:
-        return run(words)
+        return run(words, why_changed)
     except Refusal as refusal:
         tell(NAME, str(refusal))
         note_refusal(words, user, str(refusal))

@@ -7,6 +7,7 @@ from typing import Any, Optional
 
 from issuer_host.facts.answers import DECISIONS, REFUSALS, REFUSED, kind_of
 from issuer_host.facts.journals import journals_of
+from issuer_host.facts.proof import ProgramIdentity
 from issuer_host.facts.refusal import tell
 from issuer_host.telling.figures_server import FiguresServer
 
@@ -41,6 +42,11 @@ KINDS_OF_NODE = {
 # These have a label each beside the partition.
 ANSWERS = ("issuer_answers", "Answers by kind; a refusal has its number", ("partition", "kind", "refusal"))
 ENDS = ("issuer_host_ends", "Ends of the host by status; a signal is negative", ("partition", "status"))
+PROGRAM = (
+    "issuer_program",
+    "The program of the partition's last host, by its SHA-256, and 1 if it is the proved one",
+    ("partition", "sha256", "proved"),
+)
 ORDERS = ("issuer_orders", "Lines of orders by what became of them", ("partition", "kind"))
 
 
@@ -60,6 +66,7 @@ class Kinds:
         self.answers_by = prometheus_client.Counter(*ANSWERS)
         self.ends_by = prometheus_client.Counter(*ENDS)
         self.orders_by = prometheus_client.Counter(*ORDERS)
+        self.program_by = prometheus_client.Gauge(*PROGRAM)
         self.made: dict[str, Any] = {}
         for attribute, (kind, name, text) in {**KINDS, **more}.items():
             buckets = {"buckets": SECONDS} if kind == "Histogram" else {}
@@ -90,6 +97,9 @@ class Figures:
         self.answers_by: Any = Nothing()
         self.ends_by: Any = Nothing()
         self.orders_by: Any = Nothing()
+        self.program_by: Any = Nothing()
+        # The labels of the program of the last host.
+        self.program: list[tuple[str, str, str]] = []
         if kinds is not None:
             self.begin(kinds)
 
@@ -103,6 +113,7 @@ class Figures:
         self.answers_by = kinds.answers_by
         self.ends_by = kinds.ends_by
         self.orders_by = kinds.orders_by
+        self.program_by = kinds.program_by
         # (a rate sees no first event of a counter that begins with it)
         for kind in DECISIONS:
             self.answers_by.labels(self.partition, kind, "").inc(0)
@@ -136,8 +147,13 @@ class Figures:
         self.starts.inc()
         self.active.set(1)
 
-    def loaded(self, seconds: float) -> None:
-        """The host gave its first answer after so long."""
+    def loaded(self, seconds: float, program: Optional[ProgramIdentity]) -> None:
+        """The host, of a program, gave its first answer after so long."""
+        for labels in self.program:
+            self.program_by.remove(*labels)
+        self.program = [(self.partition, it.sha256, str(int(it.is_proved))) for it in (program,) if it is not None]
+        for labels in self.program:
+            self.program_by.labels(*labels).set(1)
         self.start_seconds.set(seconds)
         self.began.set_to_current_time()
 

@@ -11,6 +11,8 @@ from issuer_host import INSTALLED, OF_SOURCES
 from issuer_host.facts.paths import HOME
 from issuer_host.facts.proof import sum_of
 from issuer_host.facts.statuses import Status
+from issuer_host.launcher.sources import sources_of
+from issuer_host.launcher.toolchain import kit_of, toolchain
 from issuer_host.packaging.make_deb import PRIVATE
 from runs import content_of, write_text
 
@@ -34,8 +36,10 @@ class Package:
         os.mkdir(f"{self.folder}/built")
         shutil.copyfile(program, f"{self.folder}/built/issuer")
 
-    def write_record(self) -> None:
-        record = {"program": sum_of(f"{self.folder}/built/issuer"), "sources": {}, "kit": "a trial"}
+    def write_record(self, **more: str) -> None:
+        rt = toolchain()
+        kit = kit_of(rt) if rt else "a trial"
+        record = {"program": sum_of(f"{self.folder}/built/issuer"), "sources": sources_of(HOME) | more, "kit": kit}
         write_text(self.folder, "built/issuer.proved", json.dumps(record))
 
     def make(self, tally: Tally) -> Ran:
@@ -71,6 +75,20 @@ def made_once(tally: Tally) -> tuple[Package, str]:
 def refuses_an_unproved_program(tally: Tally) -> None:
     """No package is made of a program without the record of its proof."""
     fails(tally, Package(tally.program).make(tally), "a program without its record", "./issuer prove")
+
+
+def refuses_a_program_of_other_sources(tally: Tally) -> None:
+    """No package is made of a program whose sources changed since its proof, or whose record names none."""
+    for more, said in (
+        ({"crates/row_core": "0" * 64}, "crates/row_core changed"),
+        ({"HANDLES": "0"}, "HANDLES changed"),
+    ):
+        package = Package(tally.program)
+        package.write_record(**more)
+        fails(tally, package.make(tally), f"a program of other sources, {more}", said)
+    record = {"program": sum_of(f"{package.folder}/built/issuer")}
+    write_text(package.folder, "built/issuer.proved", json.dumps(record))
+    fails(tally, package.make(tally), "a record that names no sources", "changed since the program was proved")
 
 
 def has_the_same_bytes(tally: Tally) -> None:
@@ -172,6 +190,7 @@ CHECKS = [
     needs_dpkg(check_of(body))
     for body in (
         refuses_an_unproved_program,
+        refuses_a_program_of_other_sources,
         has_the_same_bytes,
         has_version_and_licence,
         runs_the_packaged_program,

@@ -1,0 +1,17 @@
+"""The command `issuer-run` of a tree or an installed copy: the program is the proved one of the sources at hand."""
+import os
+from collections.abc import Sequence
+from typing import Optional
+
+from issuer_host.facts.paths import HOME
+from issuer_host.launcher.proved_program import why_unproved
+from issuer_host.start import careful_start
+
+
+def why_changed() -> Optional[str]:
+    """Returns what changed since the program was proved; None if nothing did, and in a copy without sources."""
+    return why_unproved() if os.path.exists(f"{HOME}/crates.txt") else None
+
+
+def main(words: Sequence[str]) -> int:
+    return careful_start.main(words, why_changed)
