@@ -15,6 +15,9 @@ happens at a random moment:
 - a publisher reads no answers, or publishes what no decoder likes
 - a queue is deleted and declared again
 - another version of the package is put in place, file by file
+- an older journal is restored without its seals: both bridges have to refuse it, until the right one is put back
+- a file beside the journals is damaged, removed, or a named pipe in its place
+- the journals' disk goes away over an older copy: both bridges have to end, and none may go on over the copy
 
 At the end:
 

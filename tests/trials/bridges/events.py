@@ -7,6 +7,7 @@ from typing import NamedTuple
 import pika
 
 from issuer_host.broker import topology as names
+from trials.bridges.accidents import damage_beside, pull_disk, restore_unsealed
 from trials.bridges.farm import Farm, PARTITIONS
 from trials.bridges.hostile import publish_deaf, publish_hostile
 from trials.bridges.managed import KILL, STOP, TERMINATE, signal_to
@@ -135,6 +136,9 @@ EVENTS: Mapping[str, Event] = {
     "queue": Event(3, delete_queue),
     "upgrade": Event(3, upgrade),
     "hang": Event(2, hang_host),
+    "unsealed": Event(3, restore_unsealed),
+    "beside": Event(4, damage_beside),
+    "pulled": Event(3, pull_disk),
 }
 
 

@@ -80,6 +80,7 @@ class Farm:
         offline.show(config, journal, self.program, begins=True)
         command = [self.installed.command("bridge"), "--partition", str(partition), "--config", config]
         command += ["--journal", journal, "--callers", str(CALLERS)]
+        command += ["--last-run", os.path.join(self.room, f"last-run-{partition}")]
         by_name = command_before(self.room)
         for number, path in enumerate(self.sockets(partition)):
             begun = [*command, "--orders", path, *["--second"] * (number > 0), "--broker-file"]

@@ -4,7 +4,10 @@ import os
 import shutil
 import time
 
+from issuer_host.facts.paths import HOME
 from issuer_host.facts.proof import sum_of
+from issuer_host.launcher.sources import sources_of
+from issuer_host.launcher.toolchain import kit_of, toolchain
 from issuer_host.packaging.make_deb import PRIVATE, add_commands, add_package, add_program
 from issuer_host.packaging.tree import Tree
 
@@ -12,6 +15,12 @@ NEW = ".dpkg-new"
 # Between the program and the record of its proof, so that a start falls between them.
 GAP_SECONDS = 1.0
 RECORD = ".build/issuer.proved"
+
+
+def record_of(program: str) -> "dict[str, object]":
+    """Returns a record as a proof of these sources leaves it, for a program that a trial stands on."""
+    rt = toolchain()
+    return {"program": sum_of(program), "sources": sources_of(HOME), "kit": kit_of(rt) if rt else None}
 
 
 class Installed:
@@ -39,7 +48,7 @@ class Installed:
             # (the loader reads nothing after the end)
             program.write(bytes(self.version))
         with open(f"{path}.proved", "w", encoding="utf-8") as record:
-            json.dump({"program": sum_of(path)}, record)
+            json.dump(record_of(path), record)
         tree = Tree(os.path.join(self.room, f"version-{self.version}"), int(time.time()), str(self.version))
         add_program(tree, built)
         add_package(tree)

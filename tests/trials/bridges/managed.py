@@ -44,8 +44,9 @@ class ManagedBridge:
         # Done in the process before the bridge begins.
         self.child = child
         self.prevented = not_restarted()
-        # Whether it ended with a status after which it isn't started again.
+        # Whether it ended with a status after which it isn't started again, and whether a person has stopped its unit.
         self.is_down = False
+        self.is_held = False
         self.process: "Optional[subprocess.Popen[bytes]]" = None
         self.ends: collections.Counter[Union[int, str]] = collections.Counter()
         self.heard = 0.0
@@ -93,8 +94,25 @@ class ManagedBridge:
         elif status is None and now - self.heard > WATCHDOG_SECONDS:
             self.ends["watchdog"] += 1
             self.process.kill()
-        if self.died and not self.is_down and now - self.died > RESTART_SECONDS:
+        if self.died and not self.is_down and not self.is_held and now - self.died > RESTART_SECONDS:
             self.start()
+
+    def hold(self) -> None:
+        """Its unit is stopped: it isn't started again by itself."""
+        self.is_held = True
+
+    def release(self) -> None:
+        """Its unit is started by hand."""
+        self.is_held = self.is_down = False
+
+    def wait(self) -> None:
+        """Waits for its end, and kills it if it doesn't end."""
+        if self.process:
+            try:
+                self.process.wait(END_SECONDS)
+            except subprocess.TimeoutExpired:
+                self.process.kill()
+                self.process.wait()
 
     def end_group(self) -> None:
         """Kills what a bridge that ended left behind (KillMode=mixed of the unit)."""
@@ -118,13 +136,8 @@ class ManagedBridge:
 
     def end(self) -> None:
         """Waits until it ended, and kills it if it doesn't."""
-        if self.process:
-            try:
-                self.process.wait(END_SECONDS)
-            except subprocess.TimeoutExpired:
-                self.process.kill()
-                self.process.wait()
-            self.end_group()
+        self.wait()
+        self.end_group()
         self.socket.close()
 
 

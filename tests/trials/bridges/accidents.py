@@ -1,0 +1,202 @@
+"""Accidents with a partition's files, and the person who puts them right.
+
+The bridges of a partition are stopped, and its folder is copied. Then something happens to it, and both are started
+again. If they refuse to start, the person puts the copy back.
+"""
+import contextlib
+import os
+import random
+import shutil
+import time
+from collections.abc import Callable, Iterator, Sequence
+
+from issuer_host.facts.journals import journal_path
+from issuer_host.facts.partitions import partition_journal
+from trials.bridges.farm import Farm, PARTITIONS, SHARDS
+from trials.bridges.managed import ManagedBridge, TERMINATE
+
+# So long a start over other journals may take until it is refused, and so long a damaged one is looked at.
+REFUSED_SECONDS = 60.0
+LOOK_SECONDS, WATCHED_SECONDS = 0.1, 4.0
+KEPT, AWAY = ".kept", ".away"
+# So long a partition records before its disk goes away.
+SERVED_SECONDS = 2.0
+SEALS, MARK, WORK, AUDIT = ".seals", ".run", ".work", ".audit"
+# What may befall a file beside the journals.
+DAMAGES: "dict[str, Callable[[str], object]]" = {}
+
+
+def damage(does: Callable[[str], object]) -> Callable[[str], object]:
+    DAMAGES[does.__name__] = does
+    return does
+
+
+@damage
+def zeros(path: str) -> None:
+    """What a loss of power leaves on some file systems."""
+    size = os.path.getsize(path)
+    with open(path, "r+b") as file:
+        file.seek(size // 2)
+        file.write(bytes(size - size // 2))
+
+
+@damage
+def torn(path: str) -> None:
+    os.truncate(path, max(os.path.getsize(path) - 7, 0))
+
+
+@damage
+def flipped(path: str) -> None:
+    with open(path, "r+b") as file:
+        at = max(os.path.getsize(path) // 2, 0)
+        file.seek(at)
+        byte = file.read(1)
+        file.seek(at)
+        file.write(bytes([byte[0] ^ 1]) if byte else b"x")
+
+
+@damage
+def gone(path: str) -> None:
+    os.remove(path)
+
+
+@damage
+def named_pipe(path: str) -> None:
+    """A file that hangs whoever opens it without care."""
+    os.remove(path)
+    os.mkfifo(path, 0o600)
+
+
+class Partition:
+    """A partition whose bridges a person has stopped."""
+
+    def __init__(self, farm: Farm, number: int) -> None:
+        self.farm, self.number = farm, number
+        self.journal = partition_journal(farm.room, number)
+        self.folder = os.path.dirname(self.journal)
+        self.bridges = [bridge for bridge in farm.bridges if bridge.partition == number]
+
+    def copy(self) -> None:
+        """Copies the folder's files. (The folder itself may be where a disk is mounted.)"""
+        shutil.rmtree(self.folder + KEPT, ignore_errors=True)
+        shutil.copytree(self.folder, self.folder + KEPT)
+
+    def put_back(self) -> None:
+        for name in os.listdir(self.folder):
+            os.remove(os.path.join(self.folder, name))
+        for name in os.listdir(self.folder + KEPT):
+            shutil.copy2(os.path.join(self.folder + KEPT, name), os.path.join(self.folder, name))
+
+    def put_file_back(self, path: str) -> None:
+        with contextlib.suppress(FileNotFoundError):
+            os.remove(path)
+        shutil.copy2(os.path.join(self.folder + KEPT, os.path.basename(path)), path)
+
+    def begin(self) -> None:
+        """The units are started by hand."""
+        with self.farm.lock:
+            for bridge in self.bridges:
+                bridge.release()
+
+    def are_down(self) -> bool:
+        with self.farm.lock:
+            return all(bridge.is_down for bridge in self.bridges)
+
+    def wait_until_down(self, seconds: float) -> bool:
+        """Waits until both bridges ended with a status after which their unit isn't started again."""
+        until = time.monotonic() + seconds
+        while time.monotonic() < until:
+            if self.are_down():
+                return True
+            time.sleep(LOOK_SECONDS)
+        return False
+
+
+def stop(farm: Farm, bridges: Sequence[ManagedBridge]) -> None:
+    with farm.lock:
+        for bridge in bridges:
+            bridge.hold()
+            bridge.signal(TERMINATE)
+        for bridge in bridges:
+            bridge.wait()
+
+
+@contextlib.contextmanager
+def stopped(farm: Farm, dice: random.Random) -> Iterator[Partition]:
+    """A partition's bridges are stopped, and started again at the end."""
+    partition = Partition(farm, dice.randrange(PARTITIONS))
+    stop(farm, partition.bridges)
+    partition.copy()
+    try:
+        yield partition
+    finally:
+        partition.begin()
+
+
+def older(path: str, dice: random.Random) -> bool:
+    """Leaves a journal's first records, as an older copy has them. Returns whether it lost some."""
+    with open(path, "rb") as file:
+        lines = file.readlines()
+    if len(lines) < 3:
+        return False
+    kept = dice.randrange(2, len(lines))
+    with open(path, "wb") as file:
+        file.writelines(lines[:kept])
+    return True
+
+
+def restore_unsealed(farm: Farm, dice: random.Random) -> None:
+    """An older journal is put in place without its seals: no bridge may start over it."""
+    with stopped(farm, dice) as partition:
+        path = journal_path(partition.journal, dice.randrange(SHARDS))
+        is_older = older(path, dice)
+        with contextlib.suppress(FileNotFoundError):
+            os.remove(path + SEALS)
+    if is_older:
+        expect_refusal(farm, partition, "a journal that was restored without seals")
+
+
+def expect_refusal(farm: Farm, partition: Partition, what: str) -> None:
+    """Both bridges refuse to start. Then the person puts the right files back."""
+    if not partition.wait_until_down(REFUSED_SECONDS):
+        farm.faults.append(f"partition {partition.number} went on over {what}")
+    stop(farm, partition.bridges)
+    partition.put_back()
+    partition.begin()
+
+
+def pull_disk(farm: Farm, dice: random.Random) -> None:
+    """A partition's disk goes away over an older copy of its files, with the seals and the mark of then."""
+    partition = Partition(farm, dice.randrange(1, PARTITIONS))
+    stop(farm, partition.bridges)
+    partition.copy()
+    partition.begin()
+    time.sleep(SERVED_SECONDS)
+    away = partition.folder + AWAY
+    os.rename(partition.folder, away)
+    os.rename(partition.folder + KEPT, partition.folder)
+    if not partition.wait_until_down(REFUSED_SECONDS):
+        farm.faults.append(f"partition {partition.number} went on over the copy below its disk")
+    stop(farm, partition.bridges)
+    shutil.rmtree(partition.folder)
+    os.rename(away, partition.folder)
+    partition.begin()
+
+
+def damage_beside(farm: Farm, dice: random.Random) -> None:
+    """A file beside the journals is damaged. If the bridges refuse to start, it is put back."""
+    with stopped(farm, dice) as partition:
+        shard = dice.randrange(SHARDS)
+        names = [partition.journal + ending for ending in (MARK, WORK, AUDIT)]
+        names.append(journal_path(partition.journal, shard) + SEALS)
+        path = dice.choice([name for name in names if os.path.exists(name)])
+        kind = dice.choice(list(DAMAGES))
+        DAMAGES[kind](path)
+    is_down = partition.wait_until_down(WATCHED_SECONDS)
+    if farm.is_loud:
+        print(f"{os.path.basename(path)} of partition {partition.number}: {kind}; refused: {is_down}", flush=True)
+    if is_down or path.endswith(WORK):
+        # (where notes of work can't be read orders are refused, and nothing is written there)
+        stop(farm, partition.bridges)
+        partition.put_file_back(path)
+        partition.begin()
