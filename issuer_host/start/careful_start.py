@@ -132,6 +132,8 @@ def nothing_changed() -> Optional[str]:
 def program_of(start: CarefulStart, why_changed: Callable[[], Optional[str]]) -> Optional[str]:
     """Returns the path of the program that is started, or None if there is no proved one."""
     if start.program is not None:
+        if start.words[0] in APPENDING and not is_proved(start.program):
+            tell(NAME, f"{start.program} isn't the proved program: nothing is proved of what it answers")
         return start.program
     why = why_changed() if is_proved_soon() else f"{PROGRAM} isn't the program of a proof that is recorded beside it"
     if why is None:

@@ -71,7 +71,12 @@ class Kinds:
         for attribute, (kind, name, text) in {**KINDS, **more}.items():
             buckets = {"buckets": SECONDS} if kind == "Histogram" else {}
             self.made[attribute] = getattr(prometheus_client, kind)(name, text, ("partition",), **buckets)
-        FiguresServer(port, prometheus_client.generate_latest).start()
+        try:
+            FiguresServer(port, prometheus_client.generate_latest).start()
+        except OSError:
+            for made in (self.answers_by, self.ends_by, self.orders_by, self.program_by, *self.made.values()):
+                prometheus_client.REGISTRY.unregister(made)
+            raise
 
 
 def kinds_at(port: int, name: str, more: "Optional[dict[str, tuple[str, str, str]]]" = None) -> Optional[Kinds]:

@@ -34,6 +34,20 @@ def serves(tally: Tally) -> None:
         tally.expect((ran.returncode, ran.stdout), (0, "set 0 0\n"), f"a run, with {ran.stderr!r}")
 
 
+def says_that_a_program_is_another(tally: Tally) -> None:
+    """A start that answers says if its program isn't the proved one; one that only shows cards doesn't."""
+    with new_host(tally) as host:
+        another = os.path.join(host.folder, "another")
+        with open(another, "w", encoding="utf-8") as text:
+            text.write(f'#!/bin/sh\nexec {tally.program} "$@"\n')
+        os.chmod(another, 0o755)
+        files = host.begun().files()
+        ran = run(tally, "issuer-run", "--program", another, "serve", *files, "--requests", "/dev/null")
+        tally.expect((ran.returncode, ran.stderr.count("isn't the proved program")), (0, 1), f"serve: {ran.stderr!r}")
+        ran = run(tally, "issuer-run", "--program", another, "show", *files)
+        tally.expect((ran.returncode, ran.stderr), (0, ""), "show")
+
+
 def runs_the_proved_program(tally: Tally) -> None:
     """Without --program the proved program runs, or none if there is none."""
     with new_host(tally) as host:
@@ -186,6 +200,7 @@ CHECKS = [
     for body in (
         begins_once,
         serves,
+        says_that_a_program_is_another,
         runs_the_proved_program,
         refuses_a_missing_journal,
         refuses_a_journal_past_the_shards,
