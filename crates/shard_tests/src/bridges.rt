@@ -26,14 +26,12 @@ fn opening(number: u64, name: &[u8], machine: &[u8]) -> Result<Opening, Fail> {
 
 /// A bridge of the machine `m1` that follows an empty stream.
 fn new_bridge(rt: &HostRuntime) -> Result<Bridge, Fail> {
-    let mut bridge = Bridge::new(
-        rt.alloc(),
-        name_of(b"m1")?,
-        opening(0, b"", b"")?,
-        &[0; LOGS],
-        1,
-        1,
-    )?;
+    let none = Opening {
+        number: 0,
+        name: name_of(b"")?,
+        machine: name_of(b"")?,
+    };
+    let mut bridge = Bridge::new(rt.alloc(), name_of(b"m1")?, none, &[0; LOGS], 1, 1)?;
     bridge.told();
     Ok(bridge)
 }
