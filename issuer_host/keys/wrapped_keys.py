@@ -20,6 +20,7 @@ from issuer_host.keys.uses import KEY_BYTES, Use
 Json = dict[str, Any]
 
 WRAPPED_BYTES = KEY_BYTES + 8
+MOST_DKI = 255
 DIGITS = b"0123456789ABCDEF"
 USES = {use.value: use for use in Use}
 # What no host reads, and the text for it therefore lacks.
@@ -42,7 +43,8 @@ class WrappedKey:
 
     @property
     def name(self) -> str:
-        return f"{self.path} (dki {self.dki})"
+        is_index = type(self.dki) is int and 0 <= self.dki <= MOST_DKI
+        return f"{self.path} (dki {self.dki})" if is_index else self.path
 
 
 def key_sets(configuration: Json) -> list[Json]:
@@ -67,7 +69,8 @@ def wrapped_in(index: int, key_set: Json) -> Iterator[WrappedKey]:
     for name, value in members.items():
         at = f"keys[{index}].{WRAPPED}.{name}"
         if name not in USES:
-            raise Refusal(f"{at} is no key: known are {', '.join(USES)}")
+            # (its name may be anything, a number of a card too)
+            raise Refusal(f"keys[{index}].{WRAPPED} has a member that is no key: known are {', '.join(USES)}")
         if name in key_set:
             raise Refusal(f"keys[{index}] has {name} in clear and wrapped: remove one")
         given = value if isinstance(value, dict) else {}

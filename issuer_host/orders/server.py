@@ -21,6 +21,8 @@ from issuer_host.orders.texts import HOST, NOT_DONE, ORDER
 
 # So many peers are connected at a time; one more waits.
 CONNECTIONS = 16
+# So many more wait until the bridge takes them: one past these is refused at once, however idle the others are.
+WAITING = 128
 MAX_LINE = 1024
 # What the kernel says of a peer: its process, user and group.
 CREDENTIALS = struct.Struct("3i")
@@ -146,7 +148,7 @@ def listening_at(path: str) -> socket.socket:
     before = os.umask(0o177)
     try:
         found.bind(path)
-        found.listen(CONNECTIONS)
+        found.listen(WAITING)
         found.setblocking(False)
     except OSError:
         found.close()
