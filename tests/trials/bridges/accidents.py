@@ -15,7 +15,7 @@ from issuer_host.facts.partitions import partition_journal
 from trials.bridges.farm import Farm, PARTITIONS, SHARDS
 from trials.bridges.managed import ManagedBridge, TERMINATE
 
-# So long a start over other journals may take until it is refused, and so long a damaged one is looked at.
+# So long a start may take until it is refused, and so long a host has to serve to be taken for one that goes on.
 REFUSED_SECONDS = 60.0
 LOOK_SECONDS, WATCHED_SECONDS = 0.1, 4.0
 KEPT, AWAY = ".kept", ".away"
@@ -111,6 +111,30 @@ class Partition:
             time.sleep(LOOK_SECONDS)
         return False
 
+    def is_served(self) -> bool:
+        """Whether a bridge's host is the program, and no careful start any more."""
+        with self.farm.lock:
+            hosts = [bridge.host() for bridge in self.bridges]
+        return any(host is not None and program_of(host).endswith("/issuer") for host in hosts)
+
+    def is_refused(self) -> bool:
+        """Waits until both bridges ended for good, or one has served for a while. Returns whether they ended."""
+        until, served = time.monotonic() + REFUSED_SECONDS, 0.0
+        while time.monotonic() < until and served < WATCHED_SECONDS:
+            if self.are_down():
+                return True
+            served = served + LOOK_SECONDS if self.is_served() else 0.0
+            time.sleep(LOOK_SECONDS)
+        return self.are_down()
+
+
+def program_of(process: int) -> str:
+    """Returns the path of a process's program; nothing if it has ended."""
+    try:
+        return os.readlink(f"/proc/{process}/exe")
+    except OSError:
+        return ""
+
 
 def stop(farm: Farm, bridges: Sequence[ManagedBridge]) -> None:
     with farm.lock:
@@ -192,7 +216,7 @@ def damage_beside(farm: Farm, dice: random.Random) -> None:
         path = dice.choice([name for name in names if os.path.exists(name)])
         kind = dice.choice(list(DAMAGES))
         DAMAGES[kind](path)
-    is_down = partition.wait_until_down(WATCHED_SECONDS)
+    is_down = partition.is_refused()
     if farm.is_loud:
         print(f"{os.path.basename(path)} of partition {partition.number}: {kind}; refused: {is_down}", flush=True)
     if is_down or path.endswith(WORK):
