@@ -14,7 +14,7 @@ from issuer_host.facts.answers import ANSWERS, REFUSALS, kind_of
 from issuer_host.facts.limits import WINDOW
 from issuer_host.facts.paths import HOME
 from issuer_host.facts.request_lines import pan_of_line
-from issuer_host.facts.statuses import NOT_RESTARTED
+from issuer_host.facts.statuses import NOT_RESTARTED, Status
 from issuer_host.gateway.figures import GatewayFigures
 from issuer_host.host.supervisor import LOAD_SECONDS
 from issuer_host.orders.intent_log import WorkFile
@@ -25,6 +25,8 @@ from runs import content_of, write_text
 # The greatest exposure that `systemd-analyze security` may find.
 EXPOSURE = 1.1
 DEPLOY = os.path.join(HOME, "deploy")
+# What tests/deployment/systemd runs inside its container.
+OF_CONTAINER = os.path.join(HOME, "tests/deployment")
 OF_ALL_UNITS = "token.conf"
 # The disk of a partition, in memory.
 MOUNT = "[Mount]\nWhat=tmpfs\nWhere=/var/lib/issuer/0\nType=tmpfs\n"
@@ -194,6 +196,19 @@ def reports_by(name: str, folder: str) -> str:
     return said.getvalue()
 
 
+def container_scripts_refuse_a_machine(tally: Tally) -> None:
+    """What tests/deployment/systemd runs inside its container refuses to run anywhere else."""
+    scripts = sorted(name for name in os.listdir(OF_CONTAINER) if name.endswith(".sh"))
+    tally.holds(scripts, "there are scripts of the container")
+    with tempfile.TemporaryDirectory() as folder:
+        for name in scripts:
+            # (the shell finds no command here but its own)
+            words = ("/bin/bash", os.path.join(OF_CONTAINER, name))
+            ran = run_tool(tally, *words, env={"PATH": folder}, cwd=folder)
+            tally.expect(ran.returncode, Status.USAGE, f"{name}: the status, with {ran.stderr!r}")
+            tally.holds("run tests/deployment/systemd" in ran.stderr, f"{name} says {ran.stderr!r}")
+
+
 def reports_bear_the_services_name(tally: Tally) -> None:
     """What goes wrong with figures, disk and begun work is reported by the name of the service that has it."""
     with tempfile.TemporaryDirectory() as folder:
@@ -205,6 +220,7 @@ def reports_bear_the_services_name(tally: Tally) -> None:
 
 CHECKS = [
     check_of(reports_bear_the_services_name),
+    check_of(container_scripts_refuse_a_machine),
     *map(check_of, (knows_lines_and_answers, knows_no_card_of_other_lines, standby_has_other_ports, units_restart)),
     *(
         Check(f"unit_{name.partition('.')[0].strip('@')}", f"{name} by systemd", partial(unit_is_right, name), True)
