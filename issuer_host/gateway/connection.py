@@ -1,18 +1,14 @@
 """A peer's connection: frames in, responses out. It holds a buffer of two frames, and the messages in flight."""
 
 import asyncio
-import datetime
-from collections.abc import Callable
 from typing import Optional, Protocol, cast
 
-from issuer_host.facts import answers
-from issuer_host.facts.masks import masked
-from issuer_host.gateway import mapping, requests, responses
+from issuer_host.gateway import mapping, responses
 from issuer_host.gateway.figures import GatewayFigures
 from issuer_host.gateway.frames import BadFrame, FrameBuffer, KEEP_ALIVES_A_SECOND, KeepAlives, frame_of
+from issuer_host.gateway.handling import Handling
 from issuer_host.gateway.log import Limited
 from issuer_host.gateway.message import Codec, Message, Unreadable, Unwritable
-from issuer_host.gateway.requests import RequestLine
 
 # Answers that a peer doesn't read are buffered up to so many bytes; then nothing more is read from it.
 WRITE_BYTES = 1 << 16
@@ -34,6 +30,7 @@ class ConnectionOwner(Protocol):
     figures: GatewayFigures
     is_stopping: bool
     limited: Limited
+    handling: Handling
 
     def begun(self, connection: "Connection") -> str:
         """Takes a connection; or says why not."""
@@ -44,9 +41,6 @@ class ConnectionOwner(Protocol):
     def has_room(self, connection: "Connection") -> bool:
         """Whether one more message may be in flight. If not, the connection is told when it may."""
 
-    def ask(self, line: RequestLine, source: object, began: float, then: Callable[[Optional[str]], None]) -> None:
-        """Asks a host. The message's time limit began when its last byte had arrived."""
-
 
 class Connection(asyncio.BufferedProtocol):
     """A connection in a dialect."""
@@ -56,6 +50,8 @@ class Connection(asyncio.BufferedProtocol):
         self.buffer, self.keep_alives = FrameBuffer(self.dialect, owner.limits.frame), KeepAlives()
         self.transport: Optional[asyncio.Transport] = None
         self.in_flight = 0
+        # Where the peer is.
+        self.address = ""
         self.unsent: list[bytes] = []
         # Whether the peer reads, the socket is read, more frames are taken.
         self.is_stuck = self.is_paused = self.is_closing = False
@@ -69,6 +65,7 @@ class Connection(asyncio.BufferedProtocol):
     def connection_made(self, transport: asyncio.BaseTransport) -> None:
         self.transport = cast(asyncio.Transport, transport)
         self.transport.set_write_buffer_limits(high=WRITE_BYTES)
+        self.address = address_of(self.transport.get_extra_info("peername"))
         why_not = self.owner.begun(self)
         if why_not:
             self.abort(why_not)
@@ -139,51 +136,22 @@ class Connection(asyncio.BufferedProtocol):
 
     def handle(self, data: bytes) -> None:
         # (all that the buffer has came with the last bytes or before: a connection that is paused reads none)
-        began = self.heard
         try:
             message = self.codec.unpack(data)
         except Unreadable as fault:
-            self.owner.figures.unreadable += 1
-            self.owner.limited.tell(f"a message can't be read: {fault.why}")
-            if fault.is_of_other_edition:
-                return
-            if fault.so_far is None:
+            self.owner.handling.unreadable(self, fault, self.heard)
+            if fault.so_far is None and not fault.is_of_other_edition:
                 self.close_after_answers("no message")
-            elif mapping.what_to_do(fault.so_far.kind) != mapping.PASS_OVER:
-                self.respond(responses.settled(self.dialect, fault.so_far, mapping.BAD_FORMAT), began)
             return
-        what = mapping.what_to_do(message.kind)
-        self.owner.figures.count("messages", ("what", what))
-        if what == mapping.DECIDE:
-            self.decide(message, began)
-        elif what == mapping.ECHO:
-            self.respond(responses.network_response(self.dialect, message), began)
-        elif what == mapping.DECLINE:
-            self.respond(responses.settled(self.dialect, message, mapping.UNSUPPORTED), began)
+        self.owner.handling.take(self, message, self.heard)
 
-    def decide(self, message: Message, began: float) -> None:
-        line = requests.line_of(self.dialect, message, datetime.date.today())
-        if not isinstance(line, RequestLine):
-            self.owner.limited.tell(f"a message of type {message.kind} is answered without a host: {line.why}")
-            self.respond(responses.settled(self.dialect, message, line.outcome), began)
-            return
-        pan = line.pan
-
-        def answered(answer: Optional[str]) -> None:
-            self.in_flight -= 1
-            self.owner.figures.in_flight -= 1
-            if answer is None:
-                self.respond(responses.settled(self.dialect, message, mapping.NO_DECISION), began)
-            else:
-                flag(self.owner.limited, answer, pan)
-                self.respond(responses.answered(self.dialect, message, answer), began)
-            self.go_on()
-
+    def hold(self) -> None:
+        """One more message is in flight."""
         self.in_flight += 1
-        self.owner.figures.in_flight += 1
-        self.owner.ask(line, self, began, answered)
 
-    def go_on(self) -> None:
+    def let_go(self) -> None:
+        """A message in flight was answered: others may be taken."""
+        self.in_flight -= 1
         if self.is_closing:
             self.close_if_answered()
         elif self.is_paused:
@@ -191,19 +159,21 @@ class Connection(asyncio.BufferedProtocol):
 
     # Responses out
 
-    def respond(self, message: Message, began: float) -> None:
+    def respond(self, message: Message, began: float) -> str:
+        """Sends a response, and returns its code in element 39: another one, if the dialect can't express it."""
         try:
             data = self.codec.pack(message)
         except Unwritable as fault:
             self.owner.limited.tell(f"a response can't be written, and is a malfunction: {fault}")
             message = responses.malfunction(self.dialect, message)
             data = self.codec.pack(message)
-        self.owner.figures.responded(str(message.elements[mapping.CODE]), self.loop.time() - began)
-        if self.transport is None:
-            return
-        if not self.unsent:
-            self.loop.call_soon(self.send)
-        self.unsent.append(frame_of(self.dialect, data))
+        code = str(message.elements[mapping.CODE])
+        self.owner.figures.responded(code, self.loop.time() - began)
+        if self.transport is not None:
+            if not self.unsent:
+                self.loop.call_soon(self.send)
+            self.unsent.append(frame_of(self.dialect, data))
+        return code
 
     def send(self) -> None:
         """Writes all responses of a moment at once."""
@@ -248,8 +218,8 @@ class Connection(asyncio.BufferedProtocol):
             self.close_after_answers("idle")
 
 
-def flag(log: Limited, answer: str, pan: str) -> None:
-    """Reports an answer for which somebody has to look at the card, or at the configuration."""
-    kind = answers.kind_of(answer)
-    if kind.word == answers.REFUSED and mapping.refusal_of(kind.refusal) in mapping.FLAGGED:
-        log.tell(f"refused {kind.refusal}: card {masked(pan)}")
+def address_of(name: object) -> str:
+    """How the log names a peer, by what the system calls it: an address and a port, or a path."""
+    if isinstance(name, tuple) and len(name) >= 2:
+        return f"{name[0]}:{name[1]}"
+    return str(name) if isinstance(name, str) and name else "a peer"

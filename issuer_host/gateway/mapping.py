@@ -11,6 +11,7 @@ EDITIONS = ("1987", "1993")
 
 # The elements that the gateway itself reads or writes. They have one number in both editions, the date apart.
 PAN, PROCESSING, AMOUNT, TRACK_2, PSN = 2, 3, 4, 35, 23
+STAN, RRN, TERMINAL = 11, 37, 41
 APPROVAL, CODE, CURRENCY, CHIP = 38, 39, 49, 55
 DATE = {"1987": 13, "1993": 12}
 AMOUNT_TAG, CURRENCY_TAG = "9F02", "5F2A"
@@ -81,8 +82,6 @@ REFUSALS: dict[RefusalNumber, Outcome] = {
     RefusalNumber.PENDING: NO_DECISION,
     RefusalNumber.STORE_FAULT: NO_DECISION,
 }
-# These three are written to the log, the card's PAN masked: somebody has to look at the card.
-FLAGGED = (RefusalNumber.BAD_CRYPTOGRAM, RefusalNumber.BELOW_WINDOW, RefusalNumber.TAKEN)
 
 # The action codes of 1993 for response codes of the host's table; in 1987 element 39 is the response code itself.
 ACTION_CODES = {

@@ -1,0 +1,117 @@
+"""What becomes of a message that a connection has read: a host is asked about it, or it gets its answer at once."""
+
+import datetime
+from collections.abc import Callable
+from typing import Optional, Protocol
+
+from issuer_host.facts import answers
+from issuer_host.facts.masks import masked
+from issuer_host.gateway import mapping, requests, responses
+from issuer_host.gateway.dialect import Dialect
+from issuer_host.gateway.figures import GatewayFigures
+from issuer_host.gateway.log import Limited
+from issuer_host.gateway.message import Message, Unreadable
+from issuer_host.gateway.requests import RequestLine
+
+Ask = Callable[[RequestLine, object, float, Callable[[Optional[str]], None]], None]
+
+
+class MessagePeer(Protocol):
+    """A connection, as the handling of its messages sees it."""
+
+    dialect: Dialect
+    # Where the other end is, for the log.
+    address: str
+
+    def respond(self, message: Message, began: float) -> str:
+        """Sends a response, and returns its code in element 39."""
+
+    def hold(self) -> None:
+        """One more message is in flight."""
+
+    def let_go(self) -> None:
+        """A message in flight was answered."""
+
+
+class Exchange:
+    """A message, and what becomes of it."""
+
+    __slots__ = ("peer", "message", "began", "line", "answer")
+
+    def __init__(self, peer: MessagePeer, message: Message, began: float) -> None:
+        """The message's time limit began when its last byte had arrived."""
+        self.peer, self.message, self.began = peer, message, began
+        # The line that a host is asked, and its answer.
+        self.line: Optional[RequestLine] = None
+        self.answer: Optional[str] = None
+
+    @property
+    def name(self) -> str:
+        """The message, as the log names it."""
+        said = [self.message.kind]
+        for word, number in (("STAN", mapping.STAN), ("RRN", mapping.RRN)):
+            value = self.message.elements.get(number)
+            if isinstance(value, str):
+                said.append(f"{word} {value.strip()}")
+        card = f", card {masked(self.line.pan)}" if self.line is not None else ""
+        return f"{' '.join(said)} of {self.peer.address}{card}"
+
+
+class Handling:
+    """Handles the messages of all connections."""
+
+    def __init__(self, figures: GatewayFigures, limited: Limited, ask: Ask) -> None:
+        self.figures, self.limited, self.ask = figures, limited, ask
+
+    def take(self, peer: MessagePeer, message: Message, began: float) -> None:
+        """Takes a message that was read."""
+        what = mapping.what_to_do(message.kind)
+        self.figures.count("messages", ("what", what))
+        exchange = Exchange(peer, message, began)
+        if what == mapping.DECIDE:
+            self.decide(exchange)
+        elif what == mapping.ECHO:
+            self.respond(exchange, responses.network_response(peer.dialect, message))
+        elif what == mapping.DECLINE:
+            self.settle(exchange, mapping.UNSUPPORTED)
+
+    def unreadable(self, peer: MessagePeer, fault: Unreadable, began: float) -> None:
+        """Takes a message that can't be read, or not as a whole."""
+        self.figures.unreadable += 1
+        if fault.so_far is None:
+            self.limited.tell(f"a message of {peer.address} can't be read: {fault.why}")
+            return
+        exchange = Exchange(peer, fault.so_far, began)
+        self.limited.tell(f"{exchange.name} can't be read: {fault.why}")
+        if mapping.what_to_do(fault.so_far.kind) != mapping.PASS_OVER:
+            self.settle(exchange, mapping.BAD_FORMAT)
+
+    def decide(self, exchange: Exchange) -> None:
+        """Asks a host, if the message becomes a request line."""
+        line = requests.line_of(exchange.peer.dialect, exchange.message, datetime.date.today())
+        if not isinstance(line, RequestLine):
+            self.limited.tell(f"{exchange.name} is answered without a host: {line.why}")
+            self.settle(exchange, line.outcome)
+            return
+        exchange.line = line
+        exchange.peer.hold()
+        self.figures.in_flight += 1
+        self.ask(line, exchange.peer, exchange.began, lambda answer: self.answered(exchange, answer))
+
+    def answered(self, exchange: Exchange, answer: Optional[str]) -> None:
+        """A host's answer, or None if there was none in time."""
+        self.figures.in_flight -= 1
+        exchange.answer = answer
+        if answer is None:
+            self.settle(exchange, mapping.NO_DECISION)
+        else:
+            if answers.kind_of(answer).word == answers.REFUSED:
+                self.limited.tell(f"{exchange.name}: {answer}")
+            self.respond(exchange, responses.answered(exchange.peer.dialect, exchange.message, answer))
+        exchange.peer.let_go()
+
+    def settle(self, exchange: Exchange, outcome: mapping.Outcome) -> None:
+        self.respond(exchange, responses.settled(exchange.peer.dialect, exchange.message, outcome))
+
+    def respond(self, exchange: Exchange, response: Message) -> None:
+        exchange.peer.respond(response, exchange.began)
