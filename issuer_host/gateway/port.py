@@ -71,9 +71,12 @@ class Port:
         for family, where in dict.fromkeys((it[0], it[4]) for it in found):
             taken = socket.create_server(where[:2], family=family, backlog=BACKLOG)
             taken.setblocking(False)
-            # (what is accepted from it has buffers of this size too)
+            # What is accepted from it has these settings too: its buffers, and that an answer leaves at once. (The
+            # system would hold an answer back until the peer has acknowledged the last one. asyncio sets this too, but
+            # only where a socket was made with the protocol's number.)
             taken.setsockopt(socket.SOL_SOCKET, socket.SO_SNDBUF, SOCKET_BYTES)
             taken.setsockopt(socket.SOL_SOCKET, socket.SO_RCVBUF, SOCKET_BYTES)
+            taken.setsockopt(socket.IPPROTO_TCP, socket.TCP_NODELAY, 1)
             self.listening.append(taken)
             self.loop.add_reader(taken, self.accept, taken, make)
         return int(self.listening[-1].getsockname()[1])
