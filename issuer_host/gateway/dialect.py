@@ -12,6 +12,7 @@ from dataclasses import dataclass
 from typing import Any, Dict, Mapping, NamedTuple, Optional, Tuple
 
 from issuer_host.gateway import mapping
+from issuer_host.gateway.advice_rules import AdviceRules, rules_of
 from issuer_host.gateway.mapping import APPROVAL, CHIP, CODE, EDITIONS
 
 LAST_ELEMENT = 128
@@ -44,7 +45,7 @@ CHOICES = (
     Choice("conversion", ("none", "by the link"), "is_converted", "none"),
 )
 LENGTHS = ("ascii", "bcd", "binary")
-OPTIONAL = {it.member for it in CHOICES if it.default is not None} | {"declines"}
+OPTIONAL = {it.member for it in CHOICES if it.default is not None} | {"declines", "advices"}
 NEEDED = {"name", "edition", "lengths", "echo", "network", "elements", *(it.member for it in CHOICES)} - OPTIONAL
 
 
@@ -74,7 +75,8 @@ class Dialect:
 
     `echo` are the elements that a response has from its request. `accepted` are the values of `network_element` with
     which a network message is accepted. `declines` has the statuses by which the host declines what the account does,
-    by the code in element 39 of the request. Where `is_converted`, the link may have converted element 4.
+    by the code in element 39 of the request. `advices` says what is acknowledged. Where `is_converted`, the link may
+    have converted element 4.
     """
 
     name: str
@@ -91,6 +93,7 @@ class Dialect:
     network_element: int
     accepted: Tuple[str, ...]
     declines: Mapping[str, int]
+    advices: AdviceRules
     formats: Mapping[int, Format]
 
 
@@ -171,6 +174,7 @@ def dialect_of(found: Any) -> Dialect:
         network_element=network_element,
         accepted=accepted,
         declines=declines_of(found.get("declines", {}), formats[CODE]),
+        advices=advices_of(found.get("advices", {}), found["edition"], formats),
         formats=formats,
         **{field: bool(value) for field, value in chosen.items()},
     )
@@ -242,3 +246,10 @@ def declines_of(found: Any, code: Format) -> Dict[str, int]:
     if not is_object or not all(len(it) == code.size and it.isalnum() for it in found):
         raise BadDialect(f"`declines` is no object of codes of {code.size} places with a card's status, 0 to 9, each")
     return dict(found)
+
+
+def advices_of(found: Any, edition: str, formats: Mapping[int, Format]) -> AdviceRules:
+    try:
+        return rules_of(found, str(EDITIONS.index(edition)), CODE_LENGTH[edition], formats)
+    except ValueError as wrong:
+        raise BadDialect(str(wrong)) from wrong

@@ -21,6 +21,7 @@ from issuer_host.gateway.order_router import OrderRouter
 from issuer_host.gateway.port import Port
 from issuer_host.gateway.requests import RequestLine
 from issuer_host.gateway.shares import shares_of
+from issuer_host.gateway.spool import SpoolQueue
 from issuer_host.gateway.traffic import TrafficHost, Traffic
 from issuer_host.telling import service_manager
 from issuer_host.telling.figures_server import FiguresServer
@@ -114,6 +115,8 @@ class Gateway:
         self.journals: list[str] = []
         # Takes orders where the hosts are the gateway's own.
         self.orders: Optional[OrderRouter] = None
+        # Where advices are stored.
+        self.spool: Optional[SpoolQueue] = None
         self.connections: set[Connection] = set()
         # Connections that have more messages, in the order in which they came to wait.
         self.waiting: dict[Connection, None] = {}
@@ -166,6 +169,8 @@ class Gateway:
     async def run(self, listeners: list[Listener], figures_port: int) -> int:
         for number in (signal.SIGTERM, signal.SIGINT):
             self.loop.add_signal_handler(number, self.stop)
+        if self.spool is not None:
+            await self.spool.begin()
         await self.start_hosts()
         if self.orders is not None:
             self.orders.open()
@@ -253,6 +258,8 @@ class Gateway:
             await asyncio.sleep(EXPIRE_SECONDS)
         for connection in list(self.connections):
             connection.abort("the gateway ends")
+        if self.spool is not None:
+            self.spool.close()
         await self.end_hosts()
 
     async def end_hosts(self) -> None:

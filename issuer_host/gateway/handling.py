@@ -7,6 +7,7 @@ from typing import Optional, Protocol
 from issuer_host.facts import answers
 from issuer_host.facts.masks import masked
 from issuer_host.gateway import mapping, requests, responses
+from issuer_host.gateway.advices import Advices
 from issuer_host.gateway.dialect import Dialect
 from issuer_host.gateway.figures import GatewayFigures
 from issuer_host.gateway.log import Limited
@@ -62,12 +63,17 @@ class Handling:
 
     def __init__(self, figures: GatewayFigures, limited: Limited, ask: Ask) -> None:
         self.figures, self.limited, self.ask = figures, limited, ask
+        # Stores what is acknowledged; without it nothing is.
+        self.advices: Optional[Advices] = None
 
     def take(self, peer: MessagePeer, message: Message, began: float) -> None:
         """Takes a message that was read."""
         what = mapping.what_to_do(message.kind)
-        self.figures.count("messages", ("what", what))
         exchange = Exchange(peer, message, began)
+        if what == mapping.DECLINE and self.advices and peer.dialect.advices.answer_to(message.kind):
+            what = mapping.ACKNOWLEDGE
+            self.acknowledge(exchange, self.advices)
+        self.figures.count("messages", ("what", what))
         if what == mapping.DECIDE:
             self.decide(exchange)
         elif what == mapping.ECHO:
@@ -94,20 +100,57 @@ class Handling:
             self.settle(exchange, line.outcome)
             return
         exchange.line = line
-        exchange.peer.hold()
-        self.figures.in_flight += 1
+        self.hold(exchange)
+        if self.advices and self.advices.memory.was_reversed(exchange.message, line.pan):
+            self.refuse_reversed(exchange, self.advices)
+            return
         self.ask(line, exchange.peer, exchange.began, lambda answer: self.answered(exchange, answer))
 
     def answered(self, exchange: Exchange, answer: Optional[str]) -> None:
         """A host's answer, or None if there was none in time."""
-        self.figures.in_flight -= 1
         exchange.answer = answer
+        pan = exchange.line.pan if exchange.line is not None else ""
+        if self.advices and answer is not None and self.advices.memory.was_reversed(exchange.message, pan):
+            # (its reversal came while the host was asked)
+            self.refuse_reversed(exchange, self.advices)
+            return
         if answer is None:
             self.settle(exchange, mapping.NO_DECISION)
         else:
             if answers.kind_of(answer).word == answers.REFUSED:
                 self.limited.tell(f"{exchange.name}: {answer}")
             self.respond(exchange, responses.answered(exchange.peer.dialect, exchange.message, answer))
+        self.let_go(exchange)
+
+    def acknowledge(self, exchange: Exchange, advices: Advices) -> None:
+        """Answers an advice or a reversal once it is stored."""
+        peer, message = exchange.peer, exchange.message
+
+        def stored(code: Optional[str]) -> None:
+            if code is not None:
+                self.respond(exchange, responses.response_to(peer.dialect, message, code))
+            self.let_go(exchange)
+
+        self.hold(exchange)
+        advices.acknowledge(peer.dialect, message, peer.address, stored)
+
+    def refuse_reversed(self, exchange: Exchange, advices: Advices) -> None:
+        """Approves no request that was reversed, and stores that it came."""
+        peer = exchange.peer
+
+        def stored(is_stored: bool) -> None:
+            self.settle(exchange, mapping.REVERSED if is_stored else mapping.NO_DECISION)
+            self.let_go(exchange)
+
+        self.limited.tell(f"{exchange.name} came after its reversal, and isn't approved")
+        advices.note_late(peer.dialect, exchange.message, peer.address, stored)
+
+    def hold(self, exchange: Exchange) -> None:
+        self.figures.in_flight += 1
+        exchange.peer.hold()
+
+    def let_go(self, exchange: Exchange) -> None:
+        self.figures.in_flight -= 1
         exchange.peer.let_go()
 
     def settle(self, exchange: Exchange, outcome: mapping.Outcome) -> None:

@@ -22,6 +22,8 @@ partition's number goes. By the second form the hosts are behind the broker that
 --last-run       a file outside the journals' folder, with {} for the partition's number, that says which journals the
                  last run had: others are refused; none if it is left out
 --orders         the path of a socket at which it takes orders (deploy/order --socket); none if it is left out
+--spool          a folder in which advices and reversals are stored before they are acknowledged, as the dialect says
+                 (deploy/advices gives them out); without it they are declined
 --figures        the port of Prometheus' figures on the loopback; none where it is 0 (0)
 
 docs/INTEGRATION.md says what becomes of each message. At SIGTERM it answers what it has taken, and ends with 0. It ends
@@ -35,12 +37,14 @@ from collections.abc import Sequence
 from issuer_host.facts.refusal import Refusal
 from issuer_host.facts.statuses import Status
 from issuer_host.gateway import options as options_of
+from issuer_host.gateway.advices import Advices, Memory
 from issuer_host.gateway.gateway import Gateway, Partition
 from issuer_host.gateway.log import NAME, tell
 from issuer_host.gateway.options import BadOptions
 from issuer_host.gateway.order_router import OrderRouter
 from issuer_host.gateway.peer_names import PeerNames
 from issuer_host.gateway.pipes import PipeHost
+from issuer_host.gateway.spool import SpoolQueue, SpoolWriter
 from issuer_host.host.command import StartOptions, serving_command
 from issuer_host.host.line_host import HostSettings
 
@@ -70,6 +74,12 @@ async def run(words: Sequence[str]) -> int:
     is_ordered = has_hosts and options.callers == 1
     gateway = Gateway(asyncio.get_running_loop(), options.partitions, bounds, context, is_ordered, has_hosts)
     gateway.port.names = PeerNames(options.tls_names or ())
+    if options.spool:
+        memory = Memory()
+        gateway.spool = SpoolQueue(
+            gateway.loop, SpoolWriter(options.spool), memory, bounds.seconds, gateway.limited.tell
+        )
+        gateway.handling.advices = Advices(gateway.spool, memory)
     gateway.hosts = brokered(gateway, options) if options.broker_file else pipe_hosts(gateway, options)
     return await gateway.run(listeners, options.figures)
 

@@ -64,6 +64,8 @@ ACCEPTED = outcome("00", "800")
 BAD_FORMAT = outcome("30", "904")
 UNSUPPORTED = outcome("40", "115")
 NO_DECISION = outcome("91", "907")
+# A request that was reversed before: it isn't decided, or not approved, any more.
+REVERSED = outcome("94", "913")
 MALFUNCTION = outcome("96", "909")
 
 REFUSALS: dict[RefusalNumber, Outcome] = {
@@ -145,7 +147,8 @@ def approval_code(shard: int, place: int) -> str:
 
 # What is done with a message, by its type's second, third and fourth digits (class, function, origin).
 DECIDE, ECHO, DECLINE, PASS_OVER = "decide", "echo", "decline", "pass over"
-REQUEST_CLASSES, NETWORK_CLASS = "12", "8"
+ACKNOWLEDGE = "acknowledge"
+REQUEST_CLASSES, REVERSAL_CLASS, NETWORK_CLASS = "12", "4", "8"
 ACQUIRER = "01"
 
 
@@ -164,6 +167,11 @@ def what_to_do(kind: str) -> str:
 def is_repeat(kind: str) -> bool:
     """Whether a message of a type is marked as a repeat, as 0101."""
     return int(kind[3]) % 2 == 1
+
+
+def first_type(kind: str) -> str:
+    """The type of a message that isn't marked as a repeat: 0420 of 0421."""
+    return f"{kind[:3]}{int(kind[3]) - int(kind[3]) % 2}"
 
 
 def response_type(kind: str) -> str:

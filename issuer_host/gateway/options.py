@@ -35,6 +35,7 @@ def parser_of(usage: str) -> argparse.ArgumentParser:
     parser.add_argument("--broker-file")
     parser.add_argument("--orders", default="")
     parser.add_argument("--last-run", default="")
+    parser.add_argument("--spool", default="")
     parser.add_argument("--listen", action="append")
     parser.add_argument("--tls-certificate")
     parser.add_argument("--tls-key")

@@ -39,6 +39,7 @@ COMMANDS = {
     "queues": "issuer-queues",
     "ask": "issuer-ask",
     "order": "issuer-order",
+    "advices": "issuer-advices",
     "partition": "issuer-partition",
     "repartition": "issuer-repartition",
     "follow": "issuer-follow",
