@@ -1,20 +1,21 @@
 """A key in a PKCS#11 token, under which others are wrapped (AES key wrap with padding, RFC 5649).
 
-It needs Debian's python3-pykcs11. A wrong PIN is never tried again here: many tokens lock after a few.
+It needs Debian's python3-pykcs11. A host's start never tries a PIN again that the token refused (`refused_pin`).
 """
 from __future__ import annotations
 
 import errno
 import os
-from collections.abc import Callable, Sequence
+from collections.abc import Callable, Collection, Sequence
 from types import TracebackType
 from typing import Any, Optional
 
 import PyKCS11
 
 from issuer_host.facts.refusal import Refusal
-from issuer_host.files.private_files import check_private
+from issuer_host.files.private_files import check_secret
 from issuer_host.keys.master_key import check_value
+from issuer_host.keys.refused_pin import RefusedPin
 from issuer_host.keys.token_uri import TokenUri, read_uri
 from issuer_host.keys.uses import KEY_BYTES
 from issuer_host.keys.wrapped_keys import WRAPPED_BYTES, WrappedKey, wipe
@@ -33,12 +34,18 @@ PIN_FAULTS = {
 PIN_LOCKED = 0xA4
 
 
+class WrongPin(Refusal):
+    """The token refused the PIN."""
+
+
 class Token:
     """A session with a token, until the end of its `with`."""
 
     def __init__(self, uri: TokenUri, pin: str) -> None:
         self.uri = uri
         self.pin = pin
+        # What is known of a PIN that was wrong; None if a person starts this, and tries it.
+        self.refused: Optional[RefusedPin] = None
         self.library: Any = None
         self.session: Any = None
         self.key: Any = None
@@ -84,16 +91,33 @@ class Token:
 
     def log_in(self) -> None:
         try:
+            if self.refused is None:
+                self.try_pin()
+            else:
+                with self.refused as refused:
+                    self.try_unless_refused(refused)
+        finally:
+            self.pin = ""
+
+    def try_unless_refused(self, refused: RefusedPin) -> None:
+        refused.check(self.pin)
+        try:
+            self.try_pin()
+        except WrongPin:
+            refused.note(self.pin)
+            raise
+        refused.forget()
+
+    def try_pin(self) -> None:
+        try:
             self.session.login(self.pin)
         except PyKCS11.PyKCS11Error as fault:
             if fault.value == PIN_LOCKED:
                 raise Refusal("the token has locked the PIN: unlock it with the token's own tools") from None
             if fault.value in PIN_FAULTS:
                 what = f"the PIN of the token {PIN_FAULTS[fault.value]}"
-                raise Refusal(f"{what}. Look before you try again: many tokens lock after a few tries") from None
+                raise WrongPin(f"{what}. Look before you try again: many tokens lock after a few tries") from None
             raise away("the token", f"doesn't log in (fault {code_of(fault)})") from None
-        finally:
-            self.pin = ""
 
     def found_key(self) -> Any:
         found = self.session.findObjects(
@@ -185,13 +209,13 @@ def away(what: str, why: str) -> OSError:
     return OSError(errno.ENODEV, why, what)
 
 
-def opened_token(text: str) -> Token:
-    """Returns the token of a URI, to be opened by `with`."""
+def opened_token(text: str, owners: Collection[int] = ()) -> Token:
+    """Returns the token of a URI, to be opened by `with`. Its PIN is read now, from a file that these users may own."""
     uri = read_uri(text)
-    return Token(uri, read_pin(uri))
+    return Token(uri, read_pin(uri, owners))
 
 
-def read_pin(uri: TokenUri) -> str:
+def read_pin(uri: TokenUri, owners: Collection[int]) -> str:
     """Returns the PIN: from the file that the URI names, or from the service manager's credential `pin`."""
     folder = os.environ.get(CREDENTIALS)
     path = uri.pin_file or (os.path.join(folder, PIN) if folder else None)
@@ -199,7 +223,7 @@ def read_pin(uri: TokenUri) -> str:
         raise Refusal("no file has the token's PIN: add pin-source=file:/PATH to its URI, or a credential `pin`")
     try:
         if uri.pin_file:
-            check_private(path, "PIN's file")
+            check_secret(path, "PIN's file", "PIN", owners)
         with open(path, encoding="ascii", newline="") as file:
             text = file.read(MOST_PIN)
     except FileNotFoundError:

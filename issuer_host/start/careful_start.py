@@ -9,7 +9,8 @@ The words from the command on are the program's own; see issuer(1). Before it ha
   --program names
 - standard input, output and error output are open
 - the configuration, with its keys, can be opened by this user and root alone
-- if keys of the configuration are wrapped, the token that ISSUER_TOKEN names unwraps them (`deploy/keys`)
+- if keys of the configuration are wrapped, the token that ISSUER_TOKEN names unwraps them (`deploy/keys`). A PIN that
+  the token refused before isn't tried again
 - a journal exists for each shard of the configuration, and for no shard past them. If none exists, --begin creates
   them, empty, once: the program copies the records of old journals, of version 1, into them. If old journals exist,
   all do
@@ -55,7 +56,7 @@ from issuer_host.files.audit import Audit
 from issuer_host.files.folders import folder_of
 from issuer_host.files.private_files import check_input, check_keys
 from issuer_host.files.seals import ACCEPTS
-from issuer_host.start.held_configuration import read_configuration, with_configuration
+from issuer_host.start.held_configuration import read_configuration, refused_pin_path, with_configuration
 from issuer_host.start.history_checks import APPENDING, check_history
 from issuer_host.start.journal_checks import check_journals, refuse_replicated
 from issuer_host.start.users import become_owner
@@ -163,9 +164,10 @@ def hand_over(start: CarefulStart, why_changed: Callable[[], Optional[str]]) -> 
     check_keys(needed(CONFIG, start.words), owners_of(start.words))
     words = start.words
     configuration = read_configuration(needed(CONFIG, words))
+    configuration.find_token(owners_of(words))
     is_readable = not become_owner(os.path.dirname(needed(JOURNAL, words)) or ".")
     shards = configuration.shards
-    configuration.unwrap()
+    configuration.unwrap(refused_pin_path(needed(JOURNAL, words), start.last_run))
     check_journals(needed(JOURNAL, words), shards, start.begins, start.accepts)
     if words[0] in APPENDING and not start.is_node:
         refuse_replicated(needed(JOURNAL, words))

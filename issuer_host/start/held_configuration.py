@@ -9,19 +9,24 @@ import fcntl
 import json
 import mmap
 import os
-from collections.abc import Sequence
-from typing import Any, Optional
+from collections.abc import Collection, Sequence
+from typing import TYPE_CHECKING, Any, Optional
 
 from issuer_host.configuration.members import WRAPPED
 from issuer_host.facts.commands import CONFIG
 from issuer_host.facts.faults import refuse_if_lasting
 from issuer_host.facts.limits import MAX_CONFIGURATION_BYTES, MAX_SHARDS
 from issuer_host.facts.refusal import Refusal
+from issuer_host.keys.refused_pin import RefusedPin
 from issuer_host.keys.wrapped_keys import has_wrapped_keys, text_with, wipe, wrapped_keys
+
+if TYPE_CHECKING:
+    from issuer_host.keys.token import Token
 
 # The variable with the token's URI: it belongs to the machine, and configurations go from one machine to another.
 TOKEN = "ISSUER_TOKEN"
 PACKAGES = "python3-pykcs11 python3-cryptography"
+REFUSED_PIN = "refused-pin"
 # Linux's fcntl for a pipe's size, and the most that a user without rights may ask for.
 SET_PIPE_SIZE = 1031
 MOST_IN_PIPE = 1 << 20
@@ -33,6 +38,8 @@ class HeldConfiguration:
     def __init__(self, path: str, text: bytes) -> None:
         self.path = path
         self.text = text
+        # The token that unwraps the keys, once it was found; and the text that the program reads, once it was made.
+        self.token: Optional[Token] = None
         self.clear: Optional[bytearray] = None
         try:
             found = json.loads(text)
@@ -54,11 +61,13 @@ class HeldConfiguration:
     def has_wrapped_keys(self) -> bool:
         return has_wrapped_keys(self.members)
 
-    def unwrap(self) -> None:
-        """Has the token of this machine unwrap the keys, if some are wrapped."""
+    def find_token(self, owners: Collection[int] = ()) -> None:
+        """Finds the token of this machine if keys are wrapped, and reads its PIN, from a file that these users may own.
+
+        A start by root does so before it goes on as another user, who need not be able to read the PIN.
+        """
         if not self.has_wrapped_keys:
             return
-        wrapped = wrapped_keys(self.members)
         text = os.environ.get(TOKEN)
         if not text:
             what = f"the configuration {self.path} has wrapped keys, and no token is named"
@@ -67,9 +76,20 @@ class HeldConfiguration:
             from issuer_host.keys.token import opened_token
         except ImportError as fault:
             raise Refusal(f"wrapped keys need {fault.name}: apt-get install {PACKAGES}") from None
+        self.token = opened_token(text, owners)
+
+    def unwrap(self, refused_pin: str = "") -> None:
+        """Has the token that was found unwrap the keys.
+
+        `refused_pin` is the file that remembers a PIN that the token refused. Without it the PIN is tried in any case.
+        """
+        if self.token is None:
+            return
+        wrapped = wrapped_keys(self.members)
+        self.token.refused = RefusedPin(refused_pin) if refused_pin else None
         keys = []
         try:
-            with opened_token(text) as token:
+            with self.token as token:
                 for one in wrapped:
                     keys.append((one, token.unwrapped(one)))
             self.clear = text_with(self.members, keys)
@@ -111,6 +131,14 @@ def may_have_wrapped_keys(path: str) -> bool:
     except (OSError, ValueError):
         # (it is empty, a pipe, or can't be read: the program says so)
         return False
+
+
+def refused_pin_path(journal: str, last_run: str = "") -> str:
+    """Returns the file that remembers a refused PIN: one for the machine if there is a folder of last runs.
+
+    Otherwise each partition remembers it beside its journals.
+    """
+    return os.path.join(os.path.dirname(last_run), REFUSED_PIN) if last_run else f"{journal}.{REFUSED_PIN}"
 
 
 def read_configuration(path: str) -> HeldConfiguration:

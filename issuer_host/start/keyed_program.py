@@ -13,11 +13,11 @@ if __name__ == "__main__":
     sys.dont_write_bytecode = True
     sys.path.insert(0, os.path.dirname(os.path.dirname(os.path.dirname(os.path.realpath(__file__)))))
 
-from issuer_host.facts.commands import CONFIG, value_of
+from issuer_host.facts.commands import CONFIG, JOURNAL, value_of
 from issuer_host.facts.memory import keep_from_others
 from issuer_host.facts.refusal import Refusal, tell
 from issuer_host.facts.statuses import Status
-from issuer_host.start.held_configuration import read_configuration, with_configuration
+from issuer_host.start.held_configuration import read_configuration, refused_pin_path, with_configuration
 
 NAME = "issuer"
 
@@ -27,7 +27,9 @@ def main(words: Sequence[str]) -> int:
     keep_from_others()
     try:
         configuration = read_configuration(value_of(CONFIG, given))
-        configuration.unwrap()
+        configuration.find_token()
+        journal = value_of(JOURNAL, given)
+        configuration.unwrap(refused_pin_path(journal) if journal else "")
         path = configuration.path_for_program(is_readable=True)
         os.execv(program, [program, *with_configuration(given, path)])
     except Refusal as refusal:

@@ -1,5 +1,6 @@
 """A small issuer for tests of bridges: some cards over two shards, and their requests."""
-from typing import Any
+from collections.abc import Mapping
+from typing import Any, Optional
 
 from oracle.configuration import Issuer, read_configuration
 from oracle.suites import Suite
@@ -13,15 +14,16 @@ CARDS = 8
 # The status whose row declines for the account, the response code of that row, and the status of a blocked card.
 ACCOUNT, ACCOUNT_CODE = 1, "3531"
 BLOCKED, BLOCKED_CODE = 2, "3431"
+KEYS = {"ac": "01" * 16, "smi": "02" * 16}
 
 
-def configuration() -> dict[str, Any]:
+def configuration(master_keys: Mapping[str, str] = KEYS) -> dict[str, Any]:
     rows = [
         table_row(ACCOUNT_CODE, False, "00000000", status=ACCOUNT),
         table_row(BLOCKED_CODE, False, "00000000", status=BLOCKED),
         table_row("3030", True, "00800000"),
     ]
-    keys = [{"dki": 1, "option": "A", "ac": "01" * 16, "smi": "02" * 16}]
+    keys = [{"dki": 1, "option": "A", **master_keys}]
     cards = [{"pan": pan_of(card), "psn": "00", "method": 1 + card % 2} for card in range(CARDS)]
     return {"shards": SHARDS, "keys": keys, "cards": cards, "table": rows}
 
@@ -33,8 +35,8 @@ def pan_of(card: int) -> str:
 class Requests:
     """Requests of the issuer's cards, each with the next ATC of its card."""
 
-    def __init__(self) -> None:
-        self.issuer: Issuer = read_configuration(json.dumps(configuration()).encode())
+    def __init__(self, members: Optional[dict[str, Any]] = None) -> None:
+        self.issuer: Issuer = read_configuration(json.dumps(members or configuration()).encode())
         self.counters = [0] * CARDS
 
     def next(self, card: int) -> str:
