@@ -14,7 +14,7 @@ use Rattle.bridge_rule.specs.Roles.{stage_of}
 use Rattle.bridge_rule.specs.declared.role.Role.{Role}
 use Rattle.bridge_rule.specs.declared.role.Role.TheVariants.{Untold, Following, Beginning, Serving}
 use Rattle.bridge_rule.specs.Logs.{LogState, new_log, with_known, known_of}
-use Rattle.bridge_rule.specs.Bridges.{BridgeState, StandsIn, IsKnown, IsLearning, log_at, with_logs}
+use Rattle.bridge_rule.specs.Bridges.{BridgeState, StandsIn, IsKnown, IsLearning, log_at, with_logs, learned}
 use Rattle.bridge_rule.specs.Events.{IsNextKnown, DoesLearn, DoesLook, one_more}
 use Rattle.bridge_rule.proofs.Standing.{stands-here}
 
@@ -50,10 +50,6 @@ module _ (log : LogState) (history journal : List Text) (text : Text) (count : l
             ∙ (λ i. is i ++ get_or_from_slice_get journal known text text at i ∷ []) ∙ longer-known,
         omega arith,
       )
-
--- the bridge with one more record that it knows
-abbrev pub learned : BridgeState → ℕ → Text → BridgeState
-learned bridge shard text = with_logs bridge (set bridge.logs shard (with_known (log_at bridge.logs shard) text))
 
 -- one log changes
 pub log-set : (logs : List LogState) (shard : ℕ) (log : LogState) → shard < length logs → (Holds : ℕ → LogState → Type 0)

@@ -1,5 +1,5 @@
 -- A bridge, and the machines that it stands for.
-use Rattle.std.specs.Prelude.{◌≡◌, ℕ, ◌+◌, ◌<◌, ◌≤◌, ◌==◌, if◌then◌else◌, List, [], ◌∷◌, ◌++◌, length, take, slice_index_or, slice_set, Option, Some, None, Bool, true, false, map, All, replicate, nat_lt}
+use Rattle.std.specs.Prelude.{◌≡◌, ℕ, ◌+◌, ◌<◌, ◌≤◌, ◌==◌, if◌then◌else◌, List, [], ◌∷◌, ◌++◌, length, take, slice_index_or, slice_set, Option, Some, None, Bool, true, false, map, All, replicate, nat_lt, IsTrue, ◌↔◌}
 use Rattle.std.specs.List.{list_all}
 use Rattle.one_history.specs.Prefixes.{IsPrefix}
 use Rattle.one_history.specs.Streams.{Text, Word, is_word, Indexed, Count}
@@ -16,7 +16,7 @@ use Rattle.bridge_rule.specs.declared.log.Step.{Step}
 use Rattle.bridge_rule.specs.declared.log.Step.TheVariants.{Skips, Stays, Puts, Replaces}
 use Rattle.bridge_rule.specs.declared.limits.TheConstants.{LOGS, INDEX_END}
 use Rattle.bridge_rule.specs.Openings.{barrier_of}
-use Rattle.bridge_rule.specs.Logs.{LogState, new_log, taken_log, step_of, applied, forgotten, known_of}
+use Rattle.bridge_rule.specs.Logs.{LogState, new_log, taken_log, step_of, applied, forgotten, known_of, with_known}
 use Rattle.bridge_rule.specs.Roles.{stage_of, turn_of, role_at}
 
 -- a bridge: its machine's name, the last barrier that counts, its role, the log of each shard, what waits, and how much may wait
@@ -250,3 +250,58 @@ new_bridge machine last counts room waiting = record {
 abbrev pub released : List LogState → List Held → Option Held
 released logs [] = None
 released logs (one ∷ held) = if place_counts logs one.place then Some one else None
+
+-- the bridge once it was told all of its journals
+abbrev pub told_bridge : BridgeState → BridgeState
+told_bridge bridge = record {
+  machine = bridge.machine;
+  last = bridge.last;
+  role = told_role bridge.role;
+  logs = bridge.logs;
+  held = bridge.held;
+  room = bridge.room;
+}
+
+-- the bridge with one more record of a shard that it knows
+abbrev pub learned : BridgeState → ℕ → Text → BridgeState
+learned bridge shard text = with_logs bridge (slice_set bridge.logs shard (with_known (log_at bridge.logs shard) text))
+
+-- the barrier that the bridge waits for, if it waits for one
+abbrev pub waited_for : Role → Option Opening
+waited_for Untold = None
+waited_for Following = None
+waited_for (Beginning own) = Some own
+waited_for (Serving own) = None
+
+-- the name by which it serves
+abbrev pub served_name : Role → Word
+served_name Untold = []
+served_name Following = []
+served_name (Beginning own) = []
+served_name (Serving own) = own.name.items
+
+-- whether it was told all of its journals; whether it follows and was told; whether it serves
+abbrev pub is_told : Role → Bool
+is_told Untold = false
+is_told Following = true
+is_told (Beginning own) = true
+is_told (Serving own) = true
+
+abbrev pub follows : Role → Bool
+follows Untold = false
+follows Following = true
+follows (Beginning own) = false
+follows (Serving own) = false
+
+abbrev pub serves : Role → Bool
+serves Untold = false
+serves Following = false
+serves (Beginning own) = false
+serves (Serving own) = true
+
+-- the bridge after a message of records by this name, and the step at each; it is refused exactly if the bridge serves
+-- and a step changes its journals
+pub record DoesReadRecords (old new : BridgeState) (name : Word) (records : List Indexed) (steps : List Step) (is_taken : Bool) : Type 0 where
+  pub logs : new ≡ with_logs old (logs_read old name records)
+  pub steps_are : steps ≡ steps_read old name records
+  pub taken : IsTrue is_taken ↔ (IsServing old.role → are_quiet (steps_read old name records) ≡ true)

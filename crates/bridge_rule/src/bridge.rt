@@ -1,16 +1,16 @@
 //! A partition's bridge on one machine.
-ghost use Rattle.std.specs.Prelude.{◌≡◌, ◌↔◌, ◌<◌, ◌≤◌, ℕ, length, map, All, IsTrue, IfOk};
+ghost use Rattle.std.specs.Prelude.{◌≡◌, ◌↔◌, ◌<◌, ◌≤◌, ◌+◌, ◌==◌, ℕ, length, map, All, IsTrue, IfOk};
 ghost use Rattle.bridge_rule.specs.declared.limits.TheConstants.{LOGS, INDEX_END};
-ghost use Rattle.bridge_rule.specs.Bridges.{BridgeState, StandsIn, IsTold, IsFollowing, IsLearning, IsServing, new_bridge};
+ghost use Rattle.bridge_rule.specs.Bridges.{BridgeState, StandsIn, IsTold, IsFollowing, IsLearning, IsServing, new_bridge, log_at, waited_for, served_name, is_told, follows, serves};
 ghost use Rattle.bridge_rule.specs.Events.{IsPosition};
-ghost use Rattle.bridge_rule.specs.Logs.{new_log};
+ghost use Rattle.bridge_rule.specs.Logs.{new_log, known_of};
 ghost use Rattle.one_history.specs.Events.{KeepsPosition, Crash, next};
 ghost use Rattle.one_history.specs.Machines.{World};
 
 use crate::held::Held;
 use crate::limits::{INDEX_END, LOGS};
 use crate::log::Log;
-use crate::opening::{Name, Opening};
+use crate::opening::{Name, Opening, copied};
 use crate::role::Role;
 use circular_buffer::HeapCircularBuffer;
 use issuer_base::NoMemory;
@@ -98,14 +98,16 @@ impl Bridge {
 
     /// Whether it was told all of its journals, so that it may read.
     pub fn is_told(&self) -> bool
-        ensures { IsTrue result ↔ IsTold self.now.role }
+        ensures told { IsTrue result ↔ IsTold self.now.role }
+        ensures test { result ≡ is_told self.now.role }
     {
         !matches!(&self.role, Role::Untold)
     }
 
     /// Whether it follows, so that it may be called.
     pub fn is_following(&self) -> bool
-        ensures { IsTrue result ↔ IsFollowing self.now.role }
+        ensures following { IsTrue result ↔ IsFollowing self.now.role }
+        ensures test { result ≡ follows self.now.role }
     {
         matches!(&self.role, Role::Following)
     }
@@ -117,9 +119,53 @@ impl Bridge {
         matches!(&self.role, Role::Untold | Role::Serving(_))
     }
 
+    /// The barrier that it has made and waits for, if it waits for one.
+    pub fn waited_for(&self) -> Option<Opening>
+        ensures { result ≡ waited_for self.now.role }
+    {
+        match &self.role {
+            Role::Beginning(own) => Some(own.copy()),
+            _ => None,
+        }
+    }
+
+    /// The name by which it serves; empty if it doesn't.
+    pub fn served_name(&self) -> Name
+        ensures { result.items ≡ served_name self.now.role }
+    {
+        match &self.role {
+            Role::Serving(own) => copied(&own.name),
+            _ => Name::new(),
+        }
+    }
+
+    /// Whether this barrier counts if it is the stream's next message.
+    pub fn is_next(&self, opening: &Opening) -> bool
+        ensures { result ≡ (opening.now.number == self.now.last.number + 1) }
+    {
+        opening.number == self.last.number + 1
+    }
+
+    /// How many records of this shard count.
+    pub fn count(&self, shard: u8) -> u64
+        requires { shard < LOGS }
+        ensures { result ≡ (log_at self.now.logs shard).count }
+    {
+        self.logs[usize::from(shard)].count()
+    }
+
+    /// How many records of this shard's journal it knows.
+    pub fn known_count(&self, shard: u8) -> u64
+        requires { shard < LOGS }
+        ensures { result ≡ known_of (log_at self.now.logs shard) }
+    {
+        self.logs[usize::from(shard)].known_count()
+    }
+
     /// Whether it serves.
     pub fn is_serving(&self) -> bool
-        ensures { IsTrue result ↔ IsServing self.now.role }
+        ensures serving { IsTrue result ↔ IsServing self.now.role }
+        ensures test { result ≡ serves self.now.role }
     {
         matches!(&self.role, Role::Serving(_))
     }

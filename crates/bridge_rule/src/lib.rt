@@ -23,7 +23,7 @@ pub use law::{
 };
 pub use limits::{INDEX_END, LOGS, NAME_ROOM, TEXT_ROOM};
 pub use log::{Log, Step};
-pub use opening::{Name, Opening, Text};
+pub use opening::{Name, Opening, Text, copied, copied_text, is_same_name};
 pub use reading::Diverged;
 pub use record::Placed;
 pub use role::{Role, Turn};

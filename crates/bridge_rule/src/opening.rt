@@ -44,7 +44,7 @@ impl Opening {
 }
 
 /// A copy of a name.
-pub(crate) fn copied(name: &Name) -> Name
+pub fn copied(name: &Name) -> Name
     ensures { result ≡ name.now }
 {
     let mut copy = ArrayVec::new();
@@ -53,7 +53,7 @@ pub(crate) fn copied(name: &Name) -> Name
 }
 
 /// Whether two names are the same.
-pub(crate) fn is_same_name(one: &Name, other: &Name) -> bool
+pub fn is_same_name(one: &Name, other: &Name) -> bool
     ensures { result ≡ is_word one.now.items other.now.items }
 {
     one.as_slice() == other.as_slice()
@@ -67,7 +67,7 @@ pub(crate) fn is_same_text(one: &Text, other: &Text) -> bool
 }
 
 /// A copy of a text.
-pub(crate) fn copied_text(text: &Text) -> Text
+pub fn copied_text(text: &Text) -> Text
     ensures { result ≡ text.now }
 {
     let mut copy = ArrayVec::new();

@@ -1,11 +1,11 @@
 //! What a bridge does where it reads a message of the stream.
-ghost use Rattle.std.specs.Prelude.{◌≡◌, ◌+◌, ◌<◌, length, map, replicate, true, false, IsOk};
+ghost use Rattle.std.specs.Prelude.{◌≡◌, ◌+◌, ◌<◌, length, map, replicate, true, false, IsOk, is_ok};
 ghost use Rattle.one_history.specs.Streams.{OfBarrier, OfRecords};
 ghost use Rattle.bridge_rule.specs.declared.limits.TheConstants.{LOGS, INDEX_END};
 ghost use Rattle.bridge_rule.specs.declared.log.Step.TheVariants.{Skips};
 ghost use Rattle.bridge_rule.specs.Openings.{barrier_of};
 ghost use Rattle.bridge_rule.specs.Roles.{turn_of};
-ghost use Rattle.bridge_rule.specs.Bridges.{indexed, all_taken, steps_of, are_quiet, is_quiet, performed, ArePlaced, IsTold, IsServing, with_logs, logs_read, steps_read, all_forgotten, opened, turn_at};
+ghost use Rattle.bridge_rule.specs.Bridges.{indexed, all_taken, steps_of, are_quiet, is_quiet, performed, ArePlaced, IsTold, IsServing, with_logs, logs_read, steps_read, all_forgotten, opened, turn_at, barrier_read, DoesReadRecords};
 ghost use Rattle.bridge_rule.specs.Events.{ReadsMessage, IsOfARun};
 
 use crate::bridge::Bridge;
@@ -46,6 +46,7 @@ impl Bridge {
         requires room { length steps.old ≡ length records.now }
         ensures event { IsOk result → ReadsMessage self.old self.new (OfRecords name.now.items (map indexed records.now))
             (λ journals shard. performed shard (map indexed records.now) steps.new (journals shard)) }
+        ensures state { DoesReadRecords self.old self.new name.now.items (map indexed records.now) steps.new (is_ok result) }
         ensures converges { IsOfARun self.old (OfRecords name.now.items (map indexed records.now)) → IsOk result }
     {
         self.take_or_skip(name, records, steps);
@@ -60,6 +61,7 @@ impl Bridge {
         requires told { IsTold self.old.role }
         requires number { opening.now.number < INDEX_END }
         ensures event { ReadsMessage self.old self.new (OfBarrier (barrier_of opening.now)) (λ journals. journals) }
+        ensures state { self.new ≡ barrier_read self.old opening.now }
         ensures turn { result ≡ turn_at self.old opening.now }
     {
         if opening.number != self.last.number + 1 {

@@ -1,11 +1,11 @@
 //! What a bridge does beside reading: it takes over, learns of its journals, answers, and parts.
-ghost use Rattle.std.specs.Prelude.{◌≡◌, ◌↔◌, ◌+◌, ◌<◌, ◌≤◌, ℕ, length, true, false, IsTrue, IsOk, IfSome, Some, None, slice_get, slice_set, [], ◌∷◌, ◌++◌, drop, option_map};
+ghost use Rattle.std.specs.Prelude.{◌≡◌, ◌↔◌, ◌+◌, ◌<◌, ◌≤◌, ℕ, length, true, false, IsTrue, IsOk, IsSome, IfSome, Some, None, slice_get, slice_set, [], ◌∷◌, ◌++◌, drop, option_map};
 ghost use Rattle.one_history.specs.Machines.{World, Knows, count_at};
 ghost use Rattle.one_history.specs.Events.{Call, Part, CanCall, next};
 ghost use Rattle.bridge_rule.specs.declared.limits.TheConstants.{LOGS};
 ghost use Rattle.bridge_rule.specs.Openings.{barrier_of};
 ghost use Rattle.bridge_rule.specs.Logs.{with_known, known_at, text_of, known_of};
-ghost use Rattle.bridge_rule.specs.Bridges.{StandsIn, IsTold, IsServing, IsLearning, IsFollowing, WaitsForKnown, log_at, place_counts, with_role, with_held, with_logs, parted_role, released};
+ghost use Rattle.bridge_rule.specs.Bridges.{StandsIn, IsTold, IsServing, IsLearning, IsFollowing, WaitsForKnown, log_at, place_counts, with_role, with_held, with_logs, parted_role, released, told_bridge, learned};
 ghost use Rattle.bridge_rule.specs.Events.{KnowsAll, IsNextKnown, DoesLearn, DoesHold, DoesReply, DoesEnd};
 
 use crate::bridge::Bridge;
@@ -21,6 +21,7 @@ impl Bridge {
     /// The bridge was told all of its journals: it may read messages.
     pub fn told(&mut self)
         ensures role { IsTold self.new.role }
+        ensures state { self.new ≡ told_bridge self.old }
         ensures event { (world : World) → StandsIn self.old world → KnowsAll self.old world → StandsIn self.new world }
     {
         if matches!(&self.role, Role::Untold) {
@@ -33,6 +34,7 @@ impl Bridge {
         requires shard { shard < LOGS }
         requires role { IsLearning self.old.role }
         ensures room { IsOk result ↔ (length (log_at self.old.logs shard).beyond < (log_at self.old.logs shard).room) }
+        ensures state { IsOk result → self.new ≡ learned self.old shard text.now.items }
         ensures event { IsOk result → (world : World) → StandsIn self.old world
             → IsNextKnown self.old world shard text.now.items → DoesLearn self.old.role self.new world shard }
     {
@@ -58,6 +60,7 @@ impl Bridge {
         requires role { IsFollowing self.old.role }
         ensures barrier { barrier_of result
             ≡ record { number = self.old.last.number + 1; name = name.now.items; machine = self.old.machine } }
+        ensures state { self.new ≡ with_role self.old (Role.Beginning result) }
         ensures event { (world : World) → StandsIn self.old world → CanCall world name.now.items
             → StandsIn self.new (next world (Call self.old.machine (self.old.last.number + 1) name.now.items)) }
     {
@@ -108,6 +111,7 @@ impl Bridge {
         requires role { IsServing self.old.role }
         requires known { WaitsForKnown self.old.logs held.place }
         ensures room { IsOk result ↔ (length self.old.held < self.old.room) }
+        ensures state { IsOk result → self.new ≡ with_held self.old (self.old.held ++ held ∷ []) }
         ensures event { IsOk result → (world : World) → StandsIn self.old world
             → DoesHold self.new world held.reply held.place }
     {
@@ -124,6 +128,7 @@ impl Bridge {
         ensures event { IfSome result (λ held. (world : World) → StandsIn self.old world
             → DoesReply self.new world held.reply held.place) }
         ensures first { result ≡ released self.old.logs self.old.held }
+        ensures rest { IsSome result → self.new ≡ with_held self.old (drop 1 self.old.held) }
         ensures unchanged { result ≡ None → self.new ≡ self.old }
     {
         let first = self.first_held()?;
@@ -137,6 +142,7 @@ impl Bridge {
     /// The host has ended by itself: nobody waits any more, and another host begins.
     pub fn host_ended(&mut self)
         requires role { IsServing self.old.role }
+        ensures state { self.new ≡ with_held self.old [] }
         ensures event { (world : World) (keep : ℕ → ℕ) → StandsIn self.old world
             → ((shard : ℕ) → (world.machines self.old.machine).known shard ≤ keep shard)
             → DoesEnd self.new world keep }
@@ -146,6 +152,7 @@ impl Bridge {
 
     /// The connection is lost, or the partition is to stop: the bridge follows, and its host is killed if there is one.
     pub fn part(&mut self)
+        ensures state { self.new ≡ with_role self.old (parted_role self.old.role) }
         ensures event { (world : World) → StandsIn self.old world → StandsIn self.new (next world (Part self.old.machine)) }
     {
         self.leave();

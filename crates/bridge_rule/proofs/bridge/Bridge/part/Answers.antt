@@ -7,6 +7,7 @@ use Rattle.bridge_rule.proofs.bridge.Bridge.part.Goals as goal
 
 pub returns : goal.returns
 returns c = record {
+  state = c.leave.ensures;
   event = λ world stands. subst (λ (new : BridgeState). StandsIn new (next world (Part c.args.self.now.machine))) (sym c.leave.ensures)
       (parts c.args.self.now world stands);
 }
