@@ -90,6 +90,11 @@ def pan_of(message: Message) -> str:
     return found.get(b"\x5a", b"").hex().rstrip("f")
 
 
+def is_message(said: Mapping[str, Any]) -> bool:
+    """Whether an object of a spool is of a message: notices of accounts and damaged lines aren't."""
+    return {"dialect", "what", "type", "elements"} <= said.keys()
+
+
 class Marks(NamedTuple):
     """What tells an object from others: with its time of transmission, and without it."""
 
@@ -120,17 +125,20 @@ class Memory:
     def load(self, objects: Iterable[Mapping[str, Any]]) -> None:
         """Takes what was stored before. Objects that aren't of messages are passed over."""
         for said in objects:
-            if {"dialect", "what", "type", "elements"} <= said.keys():
-                self.add(said)
+            self.add(said)
 
     def knows(self, said: Mapping[str, Any]) -> bool:
         """Whether a message is one that was stored: a repeat may have another time of transmission."""
+        if not is_message(said):
+            return False
         exact, loose = marks_of(said)
         if exact in self.known:
             return True
         return said["repeat"] and loose in self.known and any(it in said["elements"] for it in TELLING)
 
     def add(self, said: Mapping[str, Any]) -> None:
+        if not is_message(said):
+            return
         for mark in marks_of(said):
             keep(self.known, mark, self.most)
         if said["what"] == REVERSAL and not is_partial(said["elements"]):

@@ -23,6 +23,8 @@ OWN = {
     "messages": "Messages by what was done with them",
     "responses": "Responses by the code in element 39",
     "unreadable": "Frames that are no message of their dialect",
+    "account_answers": "What the account said to requests",
+    "account_notices": "What the account was told of requests that it had answered",
     "expired": "Messages whose time limit passed before the host's answer",
     "late": "Answers that came after the time limit, and were dropped",
     "retries": "Lines that were put again after refused 12 or 15",
@@ -35,6 +37,7 @@ OWN = {
     "in_flight": "Messages that aren't answered yet",
     "hosts_up": "Partitions whose host can be asked",
 }
+LABELLED = ("messages", "responses", "account_answers", "account_notices", "connections_ended", "refused")
 GAUGES = ("connections", "handshakes", "silent", "in_flight", "hosts_up")
 # Of hosts that the gateway starts: by partition, as a bridge has them.
 OF_HOSTS = {
@@ -64,9 +67,7 @@ class GatewayFigures:
     def __init__(self, partitions: int, has_hosts: bool = True) -> None:
         self.late = self.expired = self.retries = self.unreadable = self.connections_begun = 0
         self.connections = self.in_flight = self.handshakes = self.silent = 0
-        self.labelled: dict[str, dict[Labels, Number]] = {
-            name: {} for name in ("messages", "responses", "connections_ended", "refused", *OF_HOSTS)
-        }
+        self.labelled: dict[str, dict[Labels, Number]] = {name: {} for name in (*LABELLED, *OF_HOSTS)}
         self.has_hosts, self.host_up = has_hosts, [0] * partitions
         # Sets the gauges of the port and of hosts.
         self.measure: Callable[[], None] = lambda: None

@@ -5,7 +5,6 @@ import functools
 import resource
 import signal
 import ssl
-from collections.abc import Callable
 from dataclasses import dataclass
 from typing import Any, Optional, Protocol
 
@@ -19,9 +18,7 @@ from issuer_host.gateway.log import Limited, NAME, tell
 from issuer_host.gateway.message import Codec
 from issuer_host.gateway.order_router import OrderRouter
 from issuer_host.gateway.port import Port
-from issuer_host.gateway.requests import RequestLine
 from issuer_host.gateway.shares import shares_of
-from issuer_host.gateway.spool import SpoolQueue
 from issuer_host.gateway.traffic import TrafficHost, Traffic
 from issuer_host.telling import service_manager
 from issuer_host.telling.figures_server import FiguresServer
@@ -89,6 +86,16 @@ class Partition(TrafficHost, Protocol):
         """Kills what hasn't ended in time."""
 
 
+class Beside(Protocol):
+    """What stands beside the hosts."""
+
+    async def begin(self) -> None:
+        """Opens it, before a message is taken."""
+
+    async def close(self) -> None:
+        """Ends it, after the last message."""
+
+
 class Gateway:
     """All of it."""
 
@@ -107,7 +114,7 @@ class Gateway:
         self.figures, self.limited = GatewayFigures(partitions, has_hosts), Limited()
         self.figures.measure = self.measure
         self.traffic = Traffic(loop, bounds.seconds, is_ordered, self.figures)
-        self.handling = Handling(self.figures, self.limited, self.ask)
+        self.handling = Handling(self.figures, self.limited, self.traffic.ask, self.made_room)
         self.hosts: list[Partition] = []
         limits, by_tls = bounds.of_port(context is not None), context is not None
         self.port = Port(loop, Admission(limits, by_tls), context, self.figures, Limited(PORT_LINES_A_SECOND))
@@ -115,8 +122,8 @@ class Gateway:
         self.journals: list[str] = []
         # Takes orders where the hosts are the gateway's own.
         self.orders: Optional[OrderRouter] = None
-        # Where advices are stored.
-        self.spool: Optional[SpoolQueue] = None
+        # What stands beside the hosts, and is opened before them and ended after: the spool, the account.
+        self.beside: list[Beside] = []
         self.connections: set[Connection] = set()
         # Connections that have more messages, in the order in which they came to wait.
         self.waiting: dict[Connection, None] = {}
@@ -142,24 +149,21 @@ class Gateway:
         self.figures.count("connections_ended", ("why", why))
 
     def has_room(self, connection: Connection) -> bool:
-        if len(self.traffic.open) < self.limits.in_flight:
+        if self.figures.in_flight < self.limits.in_flight:
             return True
         self.waiting[connection] = None
         return False
 
-    def ask(self, line: RequestLine, source: object, began: float, then: Callable[[Optional[str]], None]) -> None:
-        def answered(answer: Optional[str]) -> None:
-            then(answer)
-            if self.waiting and not self.is_resuming:
-                self.is_resuming = True
-                self.loop.call_soon(self.resume)
-
-        self.traffic.ask(line, source, began, answered)
+    def made_room(self) -> None:
+        """A message was answered: those that wait for room are taken in a moment."""
+        if self.waiting and not self.is_resuming:
+            self.is_resuming = True
+            self.loop.call_soon(self.resume)
 
     def resume(self) -> None:
         """Lets connections that wait take messages, in their order, while there is room."""
         self.is_resuming = False
-        while self.waiting and len(self.traffic.open) < self.limits.in_flight:
+        while self.waiting and self.figures.in_flight < self.limits.in_flight:
             following = next(iter(self.waiting))
             del self.waiting[following]
             following.take()
@@ -169,8 +173,8 @@ class Gateway:
     async def run(self, listeners: list[Listener], figures_port: int) -> int:
         for number in (signal.SIGTERM, signal.SIGINT):
             self.loop.add_signal_handler(number, self.stop)
-        if self.spool is not None:
-            await self.spool.begin()
+        for one in self.beside:
+            await one.begin()
         await self.start_hosts()
         if self.orders is not None:
             self.orders.open()
@@ -227,7 +231,7 @@ class Gateway:
         self.loop.call_later(TICK_SECONDS, self.tick)
         now = self.loop.time()
         service_manager.notify(
-            NAME, f"WATCHDOG=1\nSTATUS={len(self.connections)} connections, {len(self.traffic.open)} messages in flight"
+            NAME, f"WATCHDOG=1\nSTATUS={len(self.connections)} connections, {self.figures.in_flight} messages in flight"
         )
         for host in self.hosts:
             host.look()
@@ -247,7 +251,7 @@ class Gateway:
     async def drain(self) -> None:
         """Answers what is in flight, within its time limit, and ends connections and hosts."""
         service_manager.notify(NAME, "STOPPING=1")
-        tell(f"ends: {len(self.traffic.open)} messages are in flight")
+        tell(f"ends: {self.figures.in_flight} messages are in flight")
         if self.orders is not None:
             self.orders.end()
         self.port.close()
@@ -258,8 +262,8 @@ class Gateway:
             await asyncio.sleep(EXPIRE_SECONDS)
         for connection in list(self.connections):
             connection.abort("the gateway ends")
-        if self.spool is not None:
-            self.spool.close()
+        for one in reversed(self.beside):
+            await one.close()
         await self.end_hosts()
 
     async def end_hosts(self) -> None:

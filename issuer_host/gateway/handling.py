@@ -7,6 +7,8 @@ from typing import Optional, Protocol
 from issuer_host.facts import answers
 from issuer_host.facts.masks import masked
 from issuer_host.gateway import mapping, requests, responses
+from issuer_host.gateway.account import elements_of
+from issuer_host.gateway.account_order import AccountOrder, Asked, Result
 from issuer_host.gateway.advices import Advices
 from issuer_host.gateway.dialect import Dialect
 from issuer_host.gateway.figures import GatewayFigures
@@ -37,7 +39,7 @@ class MessagePeer(Protocol):
 class Exchange:
     """A message, and what becomes of it."""
 
-    __slots__ = ("peer", "message", "began", "line", "answer")
+    __slots__ = ("peer", "message", "began", "line", "answer", "verdict")
 
     def __init__(self, peer: MessagePeer, message: Message, began: float) -> None:
         """The message's time limit began when its last byte had arrived."""
@@ -45,6 +47,8 @@ class Exchange:
         # The line that a host is asked, and its answer.
         self.line: Optional[RequestLine] = None
         self.answer: Optional[str] = None
+        # What the account said, if it was asked.
+        self.verdict = ""
 
     @property
     def name(self) -> str:
@@ -61,8 +65,13 @@ class Exchange:
 class Handling:
     """Handles the messages of all connections."""
 
-    def __init__(self, figures: GatewayFigures, limited: Limited, ask: Ask) -> None:
-        self.figures, self.limited, self.ask = figures, limited, ask
+    def __init__(
+        self, figures: GatewayFigures, limited: Limited, ask: Ask, made_room: Callable[[], object] = lambda: None
+    ) -> None:
+        """`made_room` is called whenever a message in flight was answered."""
+        self.figures, self.limited, self.ask, self.made_room = figures, limited, ask, made_room
+        # Asks the account beside the host; without it the host alone is asked.
+        self.order: Optional[AccountOrder] = None
         # Stores what is acknowledged; without it nothing is.
         self.advices: Optional[Advices] = None
 
@@ -104,17 +113,34 @@ class Handling:
         if self.advices and self.advices.memory.was_reversed(exchange.message, line.pan):
             self.refuse_reversed(exchange, self.advices)
             return
-        self.ask(line, exchange.peer, exchange.began, lambda answer: self.answered(exchange, answer))
+        if self.order is not None and not line.decline:
+            self.authorise(exchange, line, self.order)
+        else:
+            self.ask(line, exchange.peer, exchange.began, lambda answer: self.answered(exchange, answer))
 
-    def answered(self, exchange: Exchange, answer: Optional[str]) -> None:
-        """A host's answer, or None if there was none in time."""
+    def authorise(self, exchange: Exchange, line: RequestLine, order: AccountOrder) -> None:
+        """Asks the account and the host."""
+        dialect, source, began = exchange.peer.dialect, exchange.peer, exchange.began
+        elements = elements_of(exchange.message, dialect.advices.elements)
+        silent = mapping.NO_DECISION.code[dialect.edition]
+
+        def then(result: Result) -> None:
+            exchange.verdict = result.verdict.text
+            self.answered(exchange, result.answer, result.code)
+
+        order.authorise(Asked(line, elements, dialect.declines, silent, source, began, then), self.ask)
+
+    def answered(self, exchange: Exchange, answer: Optional[str], code: str = "") -> None:
+        """A host's answer, or None if there was none. If the account declined by itself, there is its code."""
         exchange.answer = answer
         pan = exchange.line.pan if exchange.line is not None else ""
         if self.advices and answer is not None and self.advices.memory.was_reversed(exchange.message, pan):
             # (its reversal came while the host was asked)
             self.refuse_reversed(exchange, self.advices)
             return
-        if answer is None:
+        if code:
+            self.respond(exchange, responses.response_to(exchange.peer.dialect, exchange.message, code))
+        elif answer is None:
             self.settle(exchange, mapping.NO_DECISION)
         else:
             if answers.kind_of(answer).word == answers.REFUSED:
@@ -152,6 +178,7 @@ class Handling:
     def let_go(self, exchange: Exchange) -> None:
         self.figures.in_flight -= 1
         exchange.peer.let_go()
+        self.made_room()
 
     def settle(self, exchange: Exchange, outcome: mapping.Outcome) -> None:
         self.respond(exchange, responses.settled(exchange.peer.dialect, exchange.message, outcome))

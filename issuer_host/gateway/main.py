@@ -24,6 +24,12 @@ partition's number goes. By the second form the hosts are behind the broker that
 --orders         the path of a socket at which it takes orders (deploy/order --socket); none if it is left out
 --spool          a folder in which advices and reversals are stored before they are acknowledged, as the dialect says
                  (deploy/advices gives them out); without it they are declined
+--account        where the account is asked of each request: unix:PATH, or http://127.0.0.1:PORT/PATH; nowhere if it is
+                 left out. docs/ACCOUNT.md has what it is asked and told
+--account-milliseconds
+                 how long it may take (500); --account-silent what becomes of a request if it takes longer: decline, or
+                 table: the host decides by its table alone (decline)
+--account-order  account-first, or cryptogram-first: then it is asked of what the host approved (account-first)
 --figures        the port of Prometheus' figures on the loopback; none where it is 0 (0)
 
 docs/INTEGRATION.md says what becomes of each message. At SIGTERM it answers what it has taken, and ends with 0. It ends
@@ -36,15 +42,13 @@ from collections.abc import Sequence
 
 from issuer_host.facts.refusal import Refusal
 from issuer_host.facts.statuses import Status
-from issuer_host.gateway import options as options_of
-from issuer_host.gateway.advices import Advices, Memory
+from issuer_host.gateway import beside, options as options_of
 from issuer_host.gateway.gateway import Gateway, Partition
 from issuer_host.gateway.log import NAME, tell
 from issuer_host.gateway.options import BadOptions
 from issuer_host.gateway.order_router import OrderRouter
 from issuer_host.gateway.peer_names import PeerNames
 from issuer_host.gateway.pipes import PipeHost
-from issuer_host.gateway.spool import SpoolQueue, SpoolWriter
 from issuer_host.host.command import StartOptions, serving_command
 from issuer_host.host.line_host import HostSettings
 
@@ -74,12 +78,7 @@ async def run(words: Sequence[str]) -> int:
     is_ordered = has_hosts and options.callers == 1
     gateway = Gateway(asyncio.get_running_loop(), options.partitions, bounds, context, is_ordered, has_hosts)
     gateway.port.names = PeerNames(options.tls_names or ())
-    if options.spool:
-        memory = Memory()
-        gateway.spool = SpoolQueue(
-            gateway.loop, SpoolWriter(options.spool), memory, bounds.seconds, gateway.limited.tell
-        )
-        gateway.handling.advices = Advices(gateway.spool, memory)
+    beside.add_to(gateway, options)
     gateway.hosts = brokered(gateway, options) if options.broker_file else pipe_hosts(gateway, options)
     return await gateway.run(listeners, options.figures)
 

@@ -18,6 +18,8 @@ LISTEN = "8583=1987-ascii"
 LOOPBACK = "127.0.0.1"
 # The number of a partition in the names of its configuration and its journals.
 NUMBER = "{}"
+# What becomes of a request whose account is silent; and who is asked first.
+SILENCES, ORDERS = ("decline", "table"), ("account-first", "cryptogram-first")
 
 
 class BadOptions(Exception):
@@ -36,6 +38,10 @@ def parser_of(usage: str) -> argparse.ArgumentParser:
     parser.add_argument("--orders", default="")
     parser.add_argument("--last-run", default="")
     parser.add_argument("--spool", default="")
+    parser.add_argument("--account", default="")
+    parser.add_argument("--account-milliseconds", type=int, default=500)
+    parser.add_argument("--account-silent", choices=SILENCES, default=SILENCES[0])
+    parser.add_argument("--account-order", choices=ORDERS, default=ORDERS[0])
     parser.add_argument("--listen", action="append")
     parser.add_argument("--tls-certificate")
     parser.add_argument("--tls-key")

@@ -78,12 +78,17 @@ def declined(dialect: Dialect, message: Message, line: RequestLine) -> Union[Req
         return line
     if code not in dialect.declines:
         return Settled(mapping.BAD_FORMAT, f"element 39 is no code by which this dialect declines: {code!r}")
+    found = declined_by(line, dialect.declines[code])
+    return found or Settled(mapping.BAD_FORMAT, "its account declines, and element 55 isn't whole")
+
+
+def declined_by(line: RequestLine, status: int) -> Optional[RequestLine]:
+    """The line, declined by a status; None if its chip data aren't whole."""
+    found = line._replace(decline=str(status))
     try:
-        found = line._replace(decline=str(dialect.declines[code]))
-        is_whole = decline_of(found.body.encode("ascii")) is not None
+        return found if decline_of(found.body.encode("ascii")) is not None else None
     except ValueError:
-        is_whole = False
-    return found if is_whole else Settled(mapping.BAD_FORMAT, "its account declines, and element 55 isn't whole")
+        return None
 
 
 def first_objects(chip: bytes) -> dict[str, bytes]:

@@ -175,8 +175,10 @@ class SpoolQueue:
     def say(self, fault: Exception) -> None:
         self.tell(f"nothing is acknowledged: the spool {self.writer.folder} can't be written: {fault}")
 
-    def close(self) -> None:
-        """Ends once what was taken is written."""
+    async def close(self) -> None:
+        """Ends once what was taken is written, or a disk that hangs has had its time."""
+        if self.work is not None:
+            await asyncio.wait([self.work], timeout=self.seconds)
         self.thread.shutdown(wait=False)
 
 
