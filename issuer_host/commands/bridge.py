@@ -26,12 +26,10 @@ letters.
 It ends with 0 at SIGTERM, and with the host's status if a new start would end in the same way: 2, 6, 70 and 78. With
 64 its words, or those that it gives the host, are no command. With 75 something failed that passes: start it again.
 """
-import argparse
 import signal
-import sys
 import time
 from collections.abc import Sequence
-from typing import Any, NamedTuple, NoReturn, Optional
+from typing import Any, NamedTuple, Optional
 
 from issuer_host.broker import topology
 from issuer_host.broker.connection import Link
@@ -40,6 +38,7 @@ from issuer_host.broker.reply_mac import ReplyMacs
 from issuer_host.broker.types import Callback, Channel, Delivery, Properties, Step
 from issuer_host.broker.unacknowledged import entry_of
 from issuer_host.facts.refusal import Refusal, tell
+from issuer_host.facts.service_words import ServiceWords
 from issuer_host.facts.statuses import Status
 from issuer_host.files.open_journals import REPLACED
 from issuer_host.host.command import StartOptions, serving_command
@@ -71,7 +70,7 @@ class BridgeOptions(NamedTuple):
 
 
 def options_of(words: Sequence[str]) -> BridgeOptions:
-    parser = argparse.ArgumentParser(usage=__doc__)
+    parser = ServiceWords(NAME, __doc__)
     parser.add_argument("--partition", type=int, required=True)
     parser.add_argument("--config", required=True)
     parser.add_argument("--journal", required=True)
@@ -83,14 +82,7 @@ def options_of(words: Sequence[str]) -> BridgeOptions:
     parser.add_argument("--figures", type=int, default=0)
     parser.add_argument("--last-run", default="")
     parser.add_argument("--program")
-    parser.error = refuse_words  # type: ignore[assignment]
     return BridgeOptions(**vars(parser.parse_args(words)))
-
-
-def refuse_words(message: str) -> NoReturn:
-    """Ends with the status of words that are no command: argparse has that of a configuration."""
-    tell(NAME, message)
-    sys.exit(Status.USAGE)
 
 
 class BrokerBridge:

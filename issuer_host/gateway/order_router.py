@@ -5,7 +5,7 @@ from collections.abc import Callable, Sequence
 from typing import Protocol
 
 from issuer_host.facts.partitions import partition_of
-from issuer_host.gateway.event_loop import AsyncioLoop
+from issuer_host.host.asyncio_loop import AsyncioLoop
 from issuer_host.gateway.log import NAME
 from issuer_host.orders.order import Order
 from issuer_host.orders.server import OrderSocket

@@ -5,7 +5,7 @@ from collections.abc import Callable
 from typing import Optional
 
 from issuer_host.facts.statuses import NOT_AGAIN
-from issuer_host.gateway.event_loop import AsyncioLoop
+from issuer_host.host.asyncio_loop import AsyncioLoop
 from issuer_host.gateway.figures import PartitionFigures
 from issuer_host.gateway.traffic import Question, Traffic
 from issuer_host.host.line_host import HostSettings

@@ -3,7 +3,9 @@ import collections
 import contextlib
 import fcntl
 import os
+import struct
 import subprocess
+import termios
 from collections.abc import Callable, Sequence
 from typing import Optional
 
@@ -23,6 +25,8 @@ LAST_LINE = RUN_LINES - 10_000
 LAST_BYTE = RUN_BYTES - (1 << 24)
 # From the end of its output to its own.
 END_SECONDS = 1
+# Of what a run writes beside its answers so many lines are kept: a standby writes one for each shard.
+LAST_LINES = 32
 
 
 class HostProcess:
@@ -40,7 +44,8 @@ class HostProcess:
         self.on_end = on_end
         self.unwritten: collections.deque[bytes] = collections.deque()
         self.unread = b""
-        self.stop_line = ""
+        # What it wrote beside its answers.
+        self.last_lines: collections.deque[str] = collections.deque(maxlen=LAST_LINES)
         self.lines = 0
         self.bytes = 0
         self.answers = 0
@@ -65,6 +70,10 @@ class HostProcess:
         except PermissionError:
             # (past the user's share of pipe pages: the usual size does, with less in flight)
             pass
+
+    @property
+    def stop_line(self) -> str:
+        return self.last_lines[-1] if self.last_lines else ""
 
     def is_full(self) -> bool:
         """Whether this run has to end, and the next one to begin, before its limit."""
@@ -150,9 +159,17 @@ class HostProcess:
             while piece := os.read(self.output.fileno(), PIECE):
                 self.unread += piece
         *lines, _ = self.unread.split(b"\n")
-        text = lines[-1].decode("ascii", errors="replace") if lines else ""
-        if text and text.partition(" ")[0] not in ANSWERS:
-            self.stop_line = text
+        for line in lines:
+            text = line.decode("ascii", errors="replace")
+            if text and text.partition(" ")[0] not in ANSWERS:
+                self.last_lines.append(text)
+
+    def untaken(self) -> int:
+        """How many bytes the run hasn't read of what was put. None of a run whose input is closed are known."""
+        if not self.is_open:
+            return 0
+        in_pipe = struct.unpack("i", fcntl.ioctl(self.input.fileno(), termios.FIONREAD, b"\0" * 4))[0]
+        return sum(len(line) for line in self.unwritten) + int(in_pipe)
 
     def program(self) -> Optional[ProgramIdentity]:
         """Returns which program runs; None if it can't be seen."""
@@ -187,7 +204,7 @@ class HostProcess:
                 self.answers += 1
                 self.on_answer(text)
             else:
-                self.stop_line = text
+                self.last_lines.append(text)
 
     def end(self) -> None:
         self.loop.remove_handler(self.output.fileno())

@@ -43,6 +43,7 @@ COMMANDS = {
     "partition": "issuer-partition",
     "repartition": "issuer-repartition",
     "follow": "issuer-follow",
+    "standby": "issuer-standby",
     "gateway": "issuer-gateway",
     "look": "issuer-look",
     "check": "issuer-check",

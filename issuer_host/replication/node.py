@@ -25,12 +25,11 @@ It ends with 0 at SIGTERM, with 78 if NODE.json is wrong or all partitions are s
 that passes: start it again.
 """
 import argparse
-import sys
 from collections.abc import Sequence
-from typing import NoReturn
 
 from issuer_host.facts.journals import shards_of_files
 from issuer_host.facts.refusal import Refusal, tell
+from issuer_host.facts.service_words import ServiceWords
 from issuer_host.facts.statuses import Status
 from issuer_host.replication import cluster_keys, node_file, positions
 from issuer_host.start.held_configuration import shards_of
@@ -54,21 +53,15 @@ def copy(source: str, target: str) -> None:
     print(f"{target} has {sum(found.counts)} records, which count up to message {found.offset}")
 
 
-def refuse_words(message: str) -> NoReturn:
-    tell(NAME, message)
-    sys.exit(Status.USAGE)
-
-
 def options_of(words: Sequence[str]) -> argparse.Namespace:
-    parser = argparse.ArgumentParser(usage=__doc__)
+    parser = ServiceWords(NAME, __doc__)
     parser.add_argument("node", nargs="?")
     which = parser.add_mutually_exclusive_group()
     which.add_argument("--begin", action="store_true")
     which.add_argument("--copy", nargs=2)
-    parser.error = refuse_words  # type: ignore[assignment]
     options = parser.parse_args(words)
     if bool(options.node) == bool(options.copy):
-        refuse_words("it takes NODE.json, or --copy with two names of journals")
+        parser.error("it takes NODE.json, or --copy with two names of journals")
     return options
 
 

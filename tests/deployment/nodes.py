@@ -17,13 +17,14 @@ from issuer_host.facts.refusal import Refusal
 from issuer_host.facts.statuses import Status
 from issuer_host.files.placement import put_in_place
 from issuer_host.files.seals import Seals
+from issuer_host.host.feed_run import limits_over
 from issuer_host.orders.intent_log import Begun, DECLINE, MOST_LINES
 from issuer_host.replication import cluster_keys, positions
 from issuer_host.replication.journal_files import JournalFiles
 from issuer_host.replication.messages import Barrier, LOGS, NOTES, Record
 from issuer_host.replication.notes import Notes, as_note, read_notes, work_of, write_notes
 from issuer_host.replication.record_origins import FedLines, NOWHERE, Origin, RefusedRecord
-from issuer_host.replication.standby_run import StandbyRun, TransientFault, limits_over
+from issuer_host.replication.standby_run import StandbyRun, TransientFault
 from runs import PANS, SHARDS, write_bytes, write_text
 
 BARRIER = Barrier(3, "c0ffee", "m1")
@@ -337,10 +338,10 @@ def ends_a_run_of_standby_that_hangs(tally: Tally) -> None:
             now = itertools.count(1.0)
             run = StandbyRun(loop, command, host.name, "node", faults.append, lambda: next(now))
             run.put(Record(0, 0, "s nothing"), NOWHERE)
-            process = run.run.process if run.run else None
+            process = run.runs.run.process if run.runs.run else None
             run.end(lambda: ends.append("ended"))
-            if not is_hanging and run.run is not None:
-                run.run.end()
+            if not is_hanging and run.runs.run is not None:
+                run.runs.run.end()
             looks = 0
             while run.is_running and looks < 10 * longest:
                 _, look = loop.later.pop()

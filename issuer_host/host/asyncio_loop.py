@@ -1,4 +1,4 @@
-"""The gateway's loop, as a host's supervisor sees it."""
+"""A loop of asyncio, as a supervisor sees it: the gateway's, and that of a follower's standby."""
 
 import asyncio
 import threading
