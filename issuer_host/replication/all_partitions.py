@@ -10,7 +10,7 @@ from issuer_host.replication import positions
 from issuer_host.replication.cluster_keys import ClusterKeys
 from issuer_host.replication.node_file import NodeSettings, PartitionSettings
 from issuer_host.replication.partition_node import PartitionNode, STOPPED
-from issuer_host.replication.rule import State
+from issuer_host.replication.rule_events import State
 from issuer_host.telling.figures import Figures, KINDS_OF_NODE, Kinds, kinds_at
 from issuer_host.telling.service_manager import Readiness, notify
 

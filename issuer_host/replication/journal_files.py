@@ -39,9 +39,8 @@ class Shard:
     def length(self) -> int:
         return self.count + len(self.beyond)
 
-    def read_on(self, end: Optional[int] = None) -> list[Record]:
-        """Reads the next records, so that there are so many, or to the journal's end. Returns them."""
-        first = self.length()
+    def read_on(self, end: Optional[int] = None) -> None:
+        """Reads the next records, so that there are so many, or to the journal's end."""
         with open(self.path, "rb") as opened:
             while end is None or self.length() < end:
                 lines = os.pread(opened.fileno(), PIECE, self.at).split(b"\n")[:-1]
@@ -50,19 +49,19 @@ class Shard:
                     break
                 self.beyond.extend(line.decode("latin-1") for line in taken)
                 self.at += sum(len(line) + 1 for line in taken)
-        return [Record(self.number, place, self.text(place)) for place in range(first, self.length())]
 
     def text(self, place: int) -> str:
         return self.beyond[place - self.count]
 
-    def counted(self, record: Record) -> None:
-        """The next record counts: the one that was read, or one that was put."""
+    def put(self, text: str) -> None:
+        """A run of standby appends this record: it isn't read from the file."""
+        self.beyond.append(text)
+        self.at += len(text) + 1
+
+    def count_next(self) -> None:
+        """The next record counts."""
+        self.size += len(self.beyond.popleft()) + 1
         self.count += 1
-        self.size += len(record.text) + 1
-        if self.beyond:
-            self.beyond.popleft()
-        else:
-            self.at = self.size
 
     def forget_beyond(self, length: int) -> int:
         """Forgets what was read beyond so many records. Returns where they end."""
@@ -75,7 +74,7 @@ class Shard:
 
 
 class JournalFiles:
-    """`rule.Journals` over files."""
+    """`rule_turns.RuleJournals` over files."""
 
     def __init__(self, journal: str, shards: int, position: Position, standby: StandbyRun) -> None:
         self.journal = journal
@@ -110,9 +109,10 @@ class JournalFiles:
         for shard in self.shards:
             shard.read_on()
 
-    def recorded(self, ends: "dict[int, int]") -> list[Record]:
+    def recorded(self, ends: "dict[int, int]") -> None:
         """Reads the records that a host made: by its answers so many of each shard are durable."""
-        return [record for shard, end in ends.items() for record in self.shards[shard].read_on(end)]
+        for shard, end in ends.items():
+            self.shards[shard].read_on(end)
 
     # What the rule asks
 
@@ -125,8 +125,13 @@ class JournalFiles:
     def record(self, shard: int, place: int) -> Record:
         return Record(shard, place, self.log(shard).text(place))
 
-    def counted(self, record: Record) -> None:
-        self.log(record.shard).counted(record)
+    def count_to(self, shard: int, number: int) -> None:
+        """So many records of a shard count."""
+        log = self.log(shard)
+        if not log.count <= number <= log.length():
+            raise TransientFault(f"{number} records of {log.path} count, which has {log.length()}")
+        while log.count < number:
+            log.count_next()
 
     def put(self, record: Record) -> None:
         if record.shard == NOTES:
@@ -135,6 +140,7 @@ class JournalFiles:
         if record.shard >= len(self.shards) or len(record.text) >= MAX_RECORD_LINE:
             raise RefusedRecord(f"shard {record.shard} has no journal here that could have it")
         self.standby.put(record, self.origin)
+        self.shards[record.shard].put(record.text)
 
     def put_note(self, note: Record) -> None:
         """Appends a note. (One with another line's sum would be taken for one that the disk changed.)"""

@@ -23,6 +23,7 @@ LAST_LINE = re.compile(rb"mac [0-9a-f]{64}\n")
 LINE_BYTES = len("mac \n") + 64
 # A mark that begins so names the key by which its writer signs.
 KEY_MARK = "key."
+NAMES_KEY = re.compile(rf"mark {re.escape(KEY_MARK)}(?P<fingerprint>[0-9A-Za-z_.-]{{1,60}})\n")
 
 
 class MessageMacs:
@@ -44,9 +45,13 @@ class MessageMacs:
 
     def message_of(self, body: bytes, has_headers: bool = False) -> Message:
         """Returns what a node wrote. A message that counts nowhere is a MessageFault, which says why."""
+        return parse(self.read(body, has_headers))
+
+    def read(self, body: bytes, has_headers: bool) -> str:
+        """Returns the text of a message that a node wrote. Any other is a MessageFault."""
         if has_headers:
             raise MessageFault("it has headers")
-        return parse(self.opened(body))
+        return self.opened(body)
 
     def opened(self, body: bytes) -> str:
         """Returns the text of a message that a node signed. Any other is a MessageFault."""
@@ -70,11 +75,10 @@ class MessageMacs:
         """Returns the mark that names the key which signs here."""
         return Mark(KEY_MARK + self.fingerprints[0])
 
-    def lacks_key_of(self, message: Message) -> bool:
+    def lacks_key_of(self, text: str) -> bool:
         """Whether a message names a key that isn't here."""
-        if not isinstance(message, Mark) or not message.word.startswith(KEY_MARK):
-            return False
-        return message.word[len(KEY_MARK) :] not in self.fingerprints
+        found = NAMES_KEY.fullmatch(text)
+        return found is not None and found["fingerprint"] not in self.fingerprints
 
     def line_of(self, key: bytes, text: bytes) -> bytes:
         return b"mac " + hmac.digest(key, self.begin + text, DIGEST).hex().encode() + b"\n"

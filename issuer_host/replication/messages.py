@@ -23,6 +23,9 @@ MAX_RECORDS = 100
 # Characters of a text that a reason has.
 SHOWN = 40
 
+# The number of a shard, and a record's place in it.
+Place = tuple[int, int]
+
 
 class MessageFault(Exception):
     """A text that is no message of a stream, or that no node wrote: it counts nowhere."""
@@ -44,6 +47,9 @@ class Barrier(NamedTuple):
     number: int
     name: str
     machine: str
+
+
+NO_BARRIER = Barrier(0, "", "")
 
 
 class Records(NamedTuple):

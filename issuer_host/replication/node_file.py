@@ -1,7 +1,7 @@
 """The file that says what a node runs: NODE.json.
 
     {"machine": "m1", "broker_file": "/path/url-file", "cluster_key_file": "/path/key",
-     "program": "/path/issuer (may be absent)",
+     "program": "/path/issuer (may be absent)", "rule": "/path/program (may be absent)",
      "partitions": [{"number": 0, "configuration": "/path/0.json", "journal": "/path/journals/0", "callers": 1,
                      "orders": "/path/0.sock (may be absent)",
                      "last_run": "/path/last-run-0 (may be absent)"}],
@@ -21,12 +21,21 @@ OF_NODE = {
     "broker_file": str,
     "cluster_key_file": str,
     "program": str,
+    "rule": str,
     "partitions": list,
     "figures": int,
     "window": int,
 }
 OF_PARTITION = {"number": int, "configuration": str, "journal": str, "callers": int, "orders": str, "last_run": str}
-DEFAULTS: "dict[str, Any]" = {"program": None, "figures": 0, "window": 64, "callers": 1, "orders": "", "last_run": ""}
+DEFAULTS: "dict[str, Any]" = {
+    "program": None,
+    "rule": "",
+    "figures": 0,
+    "window": 64,
+    "callers": 1,
+    "orders": "",
+    "last_run": "",
+}
 
 
 class PartitionSettings(NamedTuple):
@@ -49,6 +58,8 @@ class NodeSettings(NamedTuple):
     # The file of the keys that the cluster's nodes share.
     cluster_key_file: str
     program: Optional[str]
+    # A program that decides by the rule, in place of the rule of the node's own process.
+    rule: str
     partitions: "tuple[PartitionSettings, ...]"
     # The port of the figures; 0 if there are none.
     figures: int

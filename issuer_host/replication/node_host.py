@@ -9,7 +9,6 @@ from issuer_host.host.command import StartOptions, serving_command
 from issuer_host.host.event_loop import Action, Loop
 from issuer_host.host.line_host import HostSettings
 from issuer_host.orders.partition_host import PartitionHost
-from issuer_host.replication.messages import Record
 from issuer_host.replication.node_file import NodeSettings, PartitionSettings
 from issuer_host.replication.notes import NotedWork, Notes
 from issuer_host.replication.queue_consumer import QueueConsumer
@@ -98,9 +97,9 @@ class NodeHost:
         assert self.replica is not None
         return self.replica.journals.notes
 
-    def noted(self, note: Record) -> None:
+    def noted(self) -> None:
         if self.replica is not None:
-            self.replica.noted(note)
+            self.replica.noted()
 
     def when_noted(self, action: Action) -> None:
         if self.replica is not None:

@@ -24,7 +24,7 @@ from issuer_host.files.whole_writes import write_whole
 from issuer_host.host.event_loop import Action
 from issuer_host.orders.intent_log import Begun, DECLINE, ENDING, KNOWN, MOST_LINES, WorkFile
 from issuer_host.orders.texts import FORMS
-from issuer_host.replication.messages import NOTES, Record
+from issuer_host.replication.messages import NOTES
 
 FIRST = "first"
 # The members of a note that work begins, and of one that says what became of it.
@@ -133,7 +133,7 @@ class Notes:
         with open(self.path, "rb") as opened:
             os.fdatasync(opened.fileno())
 
-    def counted(self, _: Record) -> None:
+    def count_next(self) -> None:
         self.beyond.popleft()
         self.count += 1
 
@@ -190,8 +190,8 @@ class NoteStream(Protocol):
     def notes(self) -> Notes:
         """Returns the notes of this machine."""
 
-    def noted(self, note: Record) -> None:
-        """Takes a note that was appended."""
+    def noted(self) -> None:
+        """A note was appended."""
 
     def when_noted(self, action: Action) -> None:
         """Does something once all notes count."""
@@ -228,7 +228,7 @@ class NotedWork(WorkFile):
         for one in said:
             text = as_note(one)
             notes.append(text)
-            self.stream.noted(Record(NOTES, notes.length() - 1, text))
+            self.stream.noted()
 
     def when_noted(self, action: Action) -> None:
         """Does something once what was noted counts: no line is put before."""

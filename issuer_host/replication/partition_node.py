@@ -9,9 +9,9 @@ A request goes this way:
 1. `QueueConsumer.take` gets it from the queue, and `PartitionNode.delivered` gives it to `NodeHost.take`, which puts it
    to the host (`PartitionHost.take`).
 2. The host's answer comes to `NodeHost.pass_on`. `RecordedAnswers.write_records` reads the answer's record from the
-   journal, and `Bridge.recorded` has `Replica.publish` write it to the stream.
-3. The stream delivers the record to all machines. Here `StreamReader.read` gives it to `Bridge.read`, which counts it,
-   and `Replica.reply` lets the answer go: `PartitionHost.answered`.
+   journal, and `RuleTurns.recorded` tells the rule of it. The rule has `Replica.publish` write it to the stream.
+3. The stream delivers the record to all machines. Here `StreamReader.read` gives it to `RuleTurns.read`. The rule
+   counts it, and lets the answer go: `PartitionHost.answered`.
 4. `ReplySender.send` sends the reply, and acknowledges the request once the broker has confirmed that.
 """
 import fcntl
@@ -33,7 +33,7 @@ from issuer_host.replication.node_file import NodeSettings, PartitionSettings
 from issuer_host.replication.node_host import NodeHost
 from issuer_host.replication.queue_consumer import QueueConsumer
 from issuer_host.replication.replica import Replica
-from issuer_host.replication.rule import State
+from issuer_host.replication.rule_events import State
 from issuer_host.replication.standby_run import TransientFault
 from issuer_host.replication.state_teller import StateTeller
 from issuer_host.replication.step_guard import StepGuard
@@ -115,7 +115,7 @@ class PartitionNode:
     def called(self) -> None:
         """The queue delivers here from now on. (Without a replica the connection is being closed.)"""
         if self.replica is not None:
-            self.replica.bridge.called()
+            self.replica.rule.called()
             self.tell_state()
 
     # The replica
@@ -141,6 +141,7 @@ class PartitionNode:
         replica = self.replica
         if replica is None:
             return
+        replica.rule.look()
         replica.positions.look()
         if self.consumer.is_connected:
             replica.reader.look(now)
@@ -152,7 +153,7 @@ class PartitionNode:
             self.consumer.begin_anew("the disk takes no record")
             self.tell_state("the disk takes no record: another machine may serve the partition")
         self.teller.look(now, replica.state_now(), self.consumer.replies.flight)
-        if replica.bridge.state in (State.WAITING, State.SERVING) and now - self.consumer.not_before > STEADY_SECONDS:
+        if replica.rule.state in (State.WAITING, State.SERVING) and now - self.consumer.not_before > STEADY_SECONDS:
             self.delay = 0.0
 
     # The end
@@ -187,7 +188,7 @@ class PartitionNode:
     def state(self) -> str:
         if self.guard.is_stopped:
             return STOPPED
-        return State.AWAY.value if self.replica is None else self.replica.bridge.state.value
+        return State.AWAY.value if self.replica is None else self.replica.rule.state.value
 
     def tell_state(self, why: str = "") -> None:
         self.teller.tell(self.state(), why)

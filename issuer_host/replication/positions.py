@@ -21,9 +21,8 @@ from issuer_host.files.regular_files import open_regular
 from issuer_host.files.seals import copy_seals
 from issuer_host.files.summed_lines import said_of, summed
 from issuer_host.host.event_loop import Loop
-from issuer_host.replication.messages import Barrier, LOGS, Mark, NAME, NOTES, text_of
+from issuer_host.replication.messages import Barrier, LOGS, Mark, NAME, NO_BARRIER, NOTES, text_of
 from issuer_host.replication.notes import read_notes, write_notes
-from issuer_host.replication.rule import NO_BARRIER
 
 # The offset before the first message.
 BEFORE = -1

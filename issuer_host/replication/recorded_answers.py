@@ -4,7 +4,8 @@ from typing import Optional
 from issuer_host.facts.answers import RECORDED
 from issuer_host.host.event_loop import Action, Loop
 from issuer_host.replication.journal_files import JournalFiles
-from issuer_host.replication.rule import Answer, Bridge, Place
+from issuer_host.replication.messages import Place
+from issuer_host.replication.rule_turns import RuleTurns
 from issuer_host.replication.step_guard import StepGuard
 from issuer_host.replication.stream_reader import StreamReader
 
@@ -13,10 +14,10 @@ class RecordedAnswers:
     """The answers of a replica's host, in their order: their records are written, and they wait for these."""
 
     def __init__(
-        self, loop: Loop, guard: StepGuard, journals: JournalFiles, bridge: Bridge, reader: StreamReader
+        self, loop: Loop, guard: StepGuard, journals: JournalFiles, rule: RuleTurns, reader: StreamReader
     ) -> None:
         self.loop, self.guard = loop, guard
-        self.journals, self.bridge, self.reader = journals, bridge, reader
+        self.journals, self.rule, self.reader = journals, rule, reader
         # The answers whose records weren't written yet, and whether the loop comes to them.
         self.answers: "list[tuple[str, Action]]" = []
         self.is_passing = False
@@ -47,12 +48,10 @@ class RecordedAnswers:
             place = place_of(text)
             if place is not None:
                 ends[place[0]] = max(ends.get(place[0], 0), place[1] + 1)
-        records = self.journals.recorded(ends)
-        if records:
+        self.journals.recorded(ends)
+        if self.journals.uncounted():
             self.reader.wrote()
-            self.bridge.recorded(records)
-        for text, take in answers:
-            self.bridge.answered(Answer(take, text, place_of(text)))
+        self.rule.recorded(*((take, place_of(text)) for text, take in answers))
 
 
 def place_of(answer: str) -> Optional[Place]:

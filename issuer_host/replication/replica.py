@@ -1,21 +1,23 @@
 """A replica of a partition: this machine's journals, the stream and the rule, from one position on.
 
-It does what `rule.BridgeActions` asks for. A partition that begins again has a new replica.
+It does what `rule_turns.RuleOutside` asks for. A partition that begins again has a new replica.
 """
-import uuid
 from typing import Any, Protocol
 
 from issuer_host.host.command import INPUT, StartOptions, command_of
 from issuer_host.host.event_loop import Action, Loop
 from issuer_host.replication import positions
+from issuer_host.replication.bridge_rule import BridgeRule
 from issuer_host.replication.journal_files import JournalFiles
 from issuer_host.replication.message_mac import MessageMacs
-from issuer_host.replication.messages import Message, NOTES, Record, text_of
+from issuer_host.replication.messages import NOTES
 from issuer_host.replication.node_file import NodeSettings, PartitionSettings
 from issuer_host.replication.position_keeper import PositionKeeper
 from issuer_host.replication.positions import Position
 from issuer_host.replication.recorded_answers import RecordedAnswers
-from issuer_host.replication.rule import Answer, Bridge, Count, State
+from issuer_host.replication.rule_events import Beginning, PartitionRule, State
+from issuer_host.replication.rule_program import RuleProgram
+from issuer_host.replication.rule_turns import RuleTurns
 from issuer_host.replication.standby_run import StandbyRun
 from issuer_host.replication.state_teller import ReplicaState
 from issuer_host.replication.step_guard import StepGuard
@@ -63,23 +65,25 @@ class Replica:
         self.journals = journals_of(loop, guard, node, settings, found)
         place = StreamPlace(found.offset, found.digest)
         self.stream = Stream(loop, macs, place, lambda: self.reader.call(), owner.tell_state)
-        self.bridge = Bridge(node.machine, Count(found.barrier, found.counts), self.journals, self)
-        self.reader = StreamReader(loop, guard, self.stream, self.journals, self.bridge, self)
-        self.answers = RecordedAnswers(loop, guard, self.journals, self.bridge, self.reader)
+        beginning = Beginning(node.machine, found.barrier, found.counts)
+        self.rule = RuleTurns(new_rule(node, beginning), beginning, self.journals, self)
+        self.reader = StreamReader(loop, guard, self.stream, self.journals, self.rule, self)
+        self.answers = RecordedAnswers(loop, guard, self.journals, self.rule, self.reader)
         self.positions = PositionKeeper(writer, settings.journal, self.journals, found, self)
+        self.rule.begin()
 
     # The connection and the queue
 
     def connected(self, connection: Any) -> None:
         self.reader.open(connection)
-        self.bridge.connected()
+        self.rule.connected()
 
     def disconnected(self) -> None:
         self.stream.lost()
-        self.bridge.disconnected()
+        self.rule.disconnected()
 
     def was_read(self) -> None:
-        """The bridge has read a message."""
+        """The rule has taken a message."""
         self.answers.pass_soon()
         self.owner.tell_state()
 
@@ -89,11 +93,8 @@ class Replica:
 
     # What the rule asks
 
-    def publish(self, message: Message) -> None:
-        self.stream.write(text_of(message))
-
-    def new_name(self) -> str:
-        return uuid.uuid4().hex
+    def publish(self, text: str) -> None:
+        self.reader.write(text)
 
     def ready(self) -> None:
         self.owner.caught_up()
@@ -103,14 +104,14 @@ class Replica:
 
     def keep_barrier(self) -> None:
         """Has the position name the barrier before the first reply: so a person finds who served last."""
-        barrier = self.bridge.barrier
+        barrier = self.rule.barrier
 
         def kept(fault: "OSError | None") -> None:
-            if self.is_ended or self.bridge.barrier != barrier:
+            if self.is_ended or self.rule.barrier != barrier:
                 return
             if fault is not None:
                 self.guard.fail(fault)
-            elif self.bridge.state is State.SERVING:
+            elif self.rule.state is State.SERVING:
                 self.guard.take(self.owner.start_host)
 
         self.positions.keep_now(kept)
@@ -121,51 +122,55 @@ class Replica:
         self.journals.standby.forget_then()
         self.journals.read_all()
 
-    def reply(self, answer: Answer) -> None:
-        assert callable(answer.request)
-        answer.request()
-
     # The host
 
     def host_loaded(self) -> None:
         """A host has loaded the journals: what it may answer by and doesn't count is written."""
         self.journals.read_all()
-        self.bridge.host_loaded()
+        self.rule.host_loaded()
 
     def host_ended(self) -> None:
         self.answers.clear()
-        self.bridge.host_ended()
+        self.rule.host_ended()
 
-    def noted(self, note: Record) -> None:
+    def noted(self) -> None:
         """A note of work on a card was appended."""
-        self.bridge.recorded([note])
+        self.rule.recorded()
 
     def when_noted(self, action: Action) -> None:
         """Does something once all notes count."""
         last = self.journals.notes.length() - 1
-        self.bridge.answered(Answer(action, "", (NOTES, last) if last >= 0 else None))
+        self.rule.recorded((action, (NOTES, last) if last >= 0 else None))
 
     # The position, time, and the end
 
     def position(self) -> Position:
         """Returns the position of what was read."""
         counts, sizes = self.journals.counts(), self.journals.sizes()
-        return Position(*self.stream.signed, self.bridge.count.barrier, counts, sizes)
+        return Position(*self.stream.signed, self.rule.barrier, counts, sizes)
 
     def position_failed(self, fault: OSError) -> None:
         self.owner.tell_state(f"the position can't be written: {fault.strerror}")
 
     def state_now(self) -> ReplicaState:
-        kept, counted = self.positions.kept.offset, sum(self.bridge.count.records)
-        is_serving = self.bridge.state is State.SERVING
+        kept, counted = self.positions.kept.offset, sum(self.rule.counts)
+        is_serving = self.rule.state is State.SERVING
         return ReplicaState(self.stream.place.offset, kept, is_serving, counted, self.journals.uncounted())
 
     def end(self) -> None:
         """Ends what runs over the journals but for the host."""
         self.is_ended = True
         self.answers.clear()
+        self.rule.end()
         self.journals.standby.kill()
         self.stream.lost()
+
+
+def new_rule(node: NodeSettings, beginning: Beginning) -> PartitionRule:
+    """Returns the rule that decides for a partition."""
+    if node.rule:
+        return RuleProgram([node.rule], beginning)
+    return BridgeRule(beginning)
 
 
 def journals_of(

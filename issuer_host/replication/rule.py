@@ -24,16 +24,21 @@ A bridge answers by what counts alone:
   answers wait for them: they may stand on them. So it is with each host that begins while the bridge serves.
 """
 import collections
-import enum
 from collections.abc import Iterator
 from typing import NamedTuple, Optional, Protocol
 
-from issuer_host.replication.messages import Barrier, LOGS, MAX_RECORDS, Mark, Message, Record, Records
-
-# The number of a shard, and a record's place in it.
-Place = tuple[int, int]
-
-NO_BARRIER = Barrier(0, "", "")
+from issuer_host.replication.messages import (
+    Barrier,
+    LOGS,
+    MAX_RECORDS,
+    Mark,
+    Message,
+    NO_BARRIER,
+    Place,
+    Record,
+    Records,
+)
+from issuer_host.replication.rule_events import State
 
 
 class Diverged(Exception):
@@ -114,16 +119,6 @@ class BridgeActions(Protocol):
 
     def reply(self, answer: Answer) -> None:
         """Sends an answer's reply, or puts the line to the host that waited for that answer."""
-
-
-class State(enum.Enum):
-    """Where a bridge stands: without a connection, reading what there is, in line, its barrier written, or active."""
-
-    AWAY = "away"
-    READING = "reading"
-    WAITING = "waiting"
-    BEGINNING = "beginning"
-    SERVING = "serving"
 
 
 class Held(NamedTuple):

@@ -2,18 +2,34 @@
 
 Who decides is a `PartitionRule`. `bridge_rule` has the rule of this version behind it, and a program may take its
 place. A rule has no journals, no broker and no clock. It knows the last barrier that counts, how many records of each
-shard do, and those that the journals have beyond. `deploy/node` asks `rule.Bridge` itself so far, and tests ask a
-`PartitionRule`.
+shard do, and those that the journals have beyond. A node tells it what happens, by `rule_turns`.
 
 - First it is told what the journals have beyond the position: `Has` for each record, and `Told`.
-- When it says `End`, it is told what the host wrote last, by `Has` and `Told`, before the next message.
+- When it says `End`, it is told what the host wrote last, by `Has` and `Told`, before the next message. It says `Ready`
+  then, if another machine serves.
 - When it says `Begin`, it knows just what counts. It is told what is beyond by `Has`, and then `HostLoaded`.
 - While it serves, what a host recorded is `Has` for each record, and `Told`: then it has them written.
+- What counts with a message is said by `BarrierCounts` and `RecordsCount`, after what becomes of the journals, and
+  before all else.
 """
-from collections.abc import Hashable, Sequence
+import enum
+from collections.abc import Sequence
 from typing import NamedTuple, Optional, Protocol, Union
 
-from issuer_host.replication.messages import Barrier, Record
+from issuer_host.replication.messages import Barrier, Place, Record
+
+# Why a rule stops for good: a record counts that the host which serves didn't record.
+DIVERGED = "diverged"
+
+
+class State(enum.Enum):
+    """Where a bridge stands: without a connection, reading what there is, in line, its barrier written, or active."""
+
+    AWAY = "away"
+    READING = "reading"
+    WAITING = "waiting"
+    BEGINNING = "beginning"
+    SERVING = "serving"
 
 
 class Has(NamedTuple):
@@ -60,7 +76,7 @@ class Answered(NamedTuple):
     """The host has answered, its next answer in its order. Its record, if it names one, was told before."""
 
     number: int
-    place: "Optional[tuple[int, int]]" = None
+    place: "Optional[Place]" = None
 
 
 class Again(NamedTuple):
@@ -78,6 +94,19 @@ class TruncateJournal(NamedTuple):
 
     shard: int
     length: int
+
+
+class BarrierCounts(NamedTuple):
+    """This barrier counts from now on."""
+
+    barrier: Barrier
+
+
+class RecordsCount(NamedTuple):
+    """So many records of a shard count from now on. The journal has them."""
+
+    shard: int
+    number: int
 
 
 class Publish(NamedTuple):
@@ -105,13 +134,13 @@ class Reply(NamedTuple):
 
 
 class Stop(NamedTuple):
-    """Stop the partition: a record counts that the host didn't record. Nothing of it was taken."""
+    """Stop the partition. Nothing of what happened was taken."""
 
     why: str
 
 
 Event = Union[Has, Told, Connected, Lost, Called, MessageRead, HostLoaded, HostEnded, Answered, Again]
-Action = Union[AppendRecord, TruncateJournal, Publish, Ready, Begin, End, Reply, Stop]
+Action = Union[AppendRecord, TruncateJournal, BarrierCounts, RecordsCount, Publish, Ready, Begin, End, Reply, Stop]
 
 
 class Beginning(NamedTuple):
@@ -125,8 +154,14 @@ class Beginning(NamedTuple):
 class PartitionRule(Protocol):
     """A partition's rule on one machine, from a position on."""
 
-    def take(self, event: Event) -> Sequence[Action]:
-        """Takes what happened. Returns what is to be done, in this order."""
+    def take(self, *events: Event) -> Sequence[Action]:
+        """Takes what happened, in this order. Returns what is to be done, in this order.
 
-    def state(self) -> Hashable:
-        """Returns what a later step depends on, and the journals and the position don't say."""
+        A rule that can't go on raises TransientFault: another one begins from the position.
+        """
+
+    def look(self) -> None:
+        """Raises TransientFault if it can't go on."""
+
+    def end(self) -> None:
+        """It is asked nothing more."""

@@ -11,16 +11,19 @@ Each line but `message` with its text is a turn. It is answered by any number of
 
     put SHARD INDEX RECORD, cut SHARD LENGTH, ready, begin, end, reply NUMBER, stop WHY
     publish LINES                   and so many lines: the text of a message
+    position NUMBER NAME MACHINE    this barrier counts now
+    count SHARD NUMBER              so many records of a shard count now
 """
 from collections.abc import Iterator, Sequence
+from typing import Union
 
-from issuer_host.replication.messages import Barrier, LOGS, record_of
-from issuer_host.replication.rule import NO_BARRIER
+from issuer_host.replication.messages import Barrier, LOGS, NO_BARRIER, record_of
 from issuer_host.replication.rule_events import (
     Action,
     Again,
     Answered,
     AppendRecord,
+    BarrierCounts,
     Begin,
     Beginning,
     Called,
@@ -34,6 +37,7 @@ from issuer_host.replication.rule_events import (
     MessageRead,
     Publish,
     Ready,
+    RecordsCount,
     Reply,
     Stop,
     Told,
@@ -49,15 +53,21 @@ PLAIN_EVENTS: "dict[str, Event]" = {
     "ended": HostEnded(),
     "again": Again(),
 }
+# Actions of a shard and a number.
+OF_SHARDS: "dict[str, type[Union[TruncateJournal, RecordsCount]]]" = {"cut": TruncateJournal, "count": RecordsCount}
 PLAIN_ACTIONS: "dict[str, Action]" = {"ready": Ready(), "begin": Begin(), "end": End()}
 
 
 def lines_of_beginning(beginning: Beginning) -> "list[str]":
     """Returns the lines that a rule begins with."""
     barrier = beginning.barrier
-    position = "position 0" if barrier == NO_BARRIER else f"position {barrier.number} {barrier.name} {barrier.machine}"
+    position = "position 0" if barrier == NO_BARRIER else line_of_barrier(barrier)
     counts = [f"count {shard} {count}" for shard, count in enumerate(beginning.counts) if count]
     return [position, f"machine {beginning.machine}", *counts]
+
+
+def line_of_barrier(barrier: Barrier) -> str:
+    return f"position {barrier.number} {barrier.name} {barrier.machine}"
 
 
 def lines_of_event(event: Event) -> "list[str]":
@@ -83,6 +93,10 @@ def lines_of_action(action: Action) -> "list[str]":
         return [f"put {action.record.shard} {action.record.place} {action.record.text}"]
     if isinstance(action, TruncateJournal):
         return [f"cut {action.shard} {action.length}"]
+    if isinstance(action, BarrierCounts):
+        return [line_of_barrier(action.barrier)]
+    if isinstance(action, RecordsCount):
+        return [f"count {action.shard} {action.number}"]
     if isinstance(action, Publish):
         text = action.text.split("\n")[:-1]
         return [f"publish {len(text)}", *text]
@@ -133,9 +147,12 @@ def action_of(line: str, lines: "Iterator[str]") -> Action:
     word, _, rest = line.partition(" ")
     if word == "put":
         return AppendRecord(record_of(rest))
-    if word == "cut":
+    if word == "position":
+        number, name, machine = rest.split(" ")
+        return BarrierCounts(Barrier(int(number), name, machine))
+    if word in OF_SHARDS:
         shard, length = map(int, rest.split(" "))
-        return TruncateJournal(shard, length)
+        return OF_SHARDS[word](shard, length)
     if word == "publish":
         return Publish(text_of_lines(rest, lines))
     if word == "reply":

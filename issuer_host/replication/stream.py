@@ -26,7 +26,7 @@ from issuer_host.broker.wire import keep_short_bodies
 from issuer_host.facts.refusal import Refusal
 from issuer_host.host.event_loop import Loop
 from issuer_host.replication.message_mac import MessageMacs
-from issuer_host.replication.messages import Mark, Message, MessageFault, text_of
+from issuer_host.replication.messages import Mark, MessageFault, text_of
 from issuer_host.replication.positions import BEFORE, digest_of, first_text
 
 # Messages that the broker sends before the first one of them is acknowledged, and so many are acknowledged together.
@@ -64,10 +64,10 @@ class StreamDelivery(NamedTuple):
 
 
 class Taken(NamedTuple):
-    """A message that was read: what a node wrote, or why it counts nowhere."""
+    """A message that was read: the text that a node wrote, or why it counts nowhere."""
 
     offset: int
-    message: Optional[Message]
+    text: Optional[str]
     why: str = ""
 
 
@@ -211,15 +211,15 @@ class Stream:
         """Reads a message. Refuses one that says that this machine lacks a key."""
         place = self.place if delivered.offset == BEFORE else Place(delivered.offset, digest_of(delivered.body))
         try:
-            message = self.message_of(delivered)
+            text = self.text_of(delivered)
         except MessageFault as fault:
             self.place = place
             return Taken(delivered.offset, None, str(fault))
-        if self.macs.lacks_key_of(message):
+        if self.macs.lacks_key_of(text):
             raise Refusal(f"message {delivered.offset} of {self.name} names a key that isn't here; {KEY}")
         self.place = self.signed = place
         self.name_key(delivered.body)
-        return Taken(delivered.offset, message)
+        return Taken(delivered.offset, text)
 
     def name_key(self, body: bytes) -> None:
         """Names the key that signs here, by that of a message which another key signed, once a connection.
@@ -233,9 +233,9 @@ class Stream:
             self.unwritten.append(self.macs.signed_by(key, text))
             self.write(text)
 
-    def message_of(self, delivered: StreamDelivery) -> Message:
-        """Returns what a node wrote. A message that counts nowhere is a MessageFault."""
-        return self.macs.message_of(delivered.body, delivered.has_headers)
+    def text_of(self, delivered: StreamDelivery) -> str:
+        """Returns what a node wrote. A message that no node wrote is a MessageFault."""
+        return self.macs.read(delivered.body, delivered.has_headers)
 
     def acknowledge(self, tag: int) -> None:
         self.unacknowledged += 1
@@ -248,10 +248,10 @@ class Stream:
         if delivered.offset != 0:
             raise Refusal(f"{self.name} doesn't reach back to its beginning, but to message {delivered.offset}: {COPY}")
         try:
-            first = self.message_of(delivered)
+            first = self.text_of(delivered)
         except MessageFault as fault:
             raise Refusal(f"the first message of {self.name} is of no node that has a key of here: {fault}; {KEY}")
-        if text_of(first) != first_text(self.place.digest):
+        if first != first_text(self.place.digest):
             raise Refusal(
                 f"{self.name} begins with other journals than those here: all machines begin with the same ones, or"
                 f" {COPY}"
@@ -273,7 +273,7 @@ class Stream:
             )
         try:
             if self.place == self.signed:
-                self.message_of(delivered)
+                self.text_of(delivered)
                 self.name_key(delivered.body)
         except MessageFault as fault:
             raise Refusal(f"message {offset} of {self.name} is of no node that has a key of here: {fault}; {KEY}")

@@ -4,10 +4,11 @@ from typing import Any, Protocol
 
 from issuer_host.host.event_loop import Loop
 from issuer_host.replication.journal_files import JournalFiles
-from issuer_host.replication.messages import Message, Records
+from issuer_host.replication.own_messages import OwnMessages
 from issuer_host.replication.positions import BEFORE, first_text
 from issuer_host.replication.record_origins import Origin, RefusedRecord, refusal_of
-from issuer_host.replication.rule import Bridge, Diverged, State
+from issuer_host.replication.rule_events import State
+from issuer_host.replication.rule_turns import RuleTurns
 from issuer_host.replication.step_guard import StepGuard
 from issuer_host.replication.stream import Stream, Taken
 
@@ -24,14 +25,14 @@ class MessageWatcher(Protocol):
     """Who follows what is read."""
 
     def was_read(self) -> None:
-        """The bridge has read a message."""
+        """The rule has taken a message."""
 
     def passed_over(self, offset: int, why: str) -> None:
         """A message is none that a node wrote."""
 
 
 class StreamReader:
-    """Gives a replica's bridge what its stream delivers."""
+    """Gives a replica's rule what its stream delivers."""
 
     def __init__(
         self,
@@ -39,18 +40,18 @@ class StreamReader:
         guard: StepGuard,
         stream: Stream,
         journals: JournalFiles,
-        bridge: Bridge,
+        rule: RuleTurns,
         watcher: MessageWatcher,
     ) -> None:
         self.loop, self.guard = loop, guard
-        self.stream, self.journals, self.bridge = stream, journals, bridge
+        self.stream, self.journals, self.rule = stream, journals, rule
         self.watcher = watcher
         # Whether there is something to read, and the loop comes to it.
         self.is_called = False
         # When a message was read or written last, and when one was read last, or reading began.
         self.heard = self.read_at = 0.0
-        # Up to which sequence what was written was written again.
-        self.rewritten = 0
+        # What was written and didn't come back.
+        self.own = OwnMessages()
 
     def open(self, connection: Any) -> None:
         """Begins to read and to write by a connection."""
@@ -83,29 +84,26 @@ class StreamReader:
     def take(self, taken: Taken) -> None:
         """Takes the stream's next message. One that no node wrote counts nowhere, on all machines alike."""
         self.read_at = time.monotonic()
-        if taken.message is None:
+        if taken.text is None:
             self.watcher.passed_over(taken.offset, taken.why)
         else:
             self.heard = self.read_at
-            self.read(taken.offset, taken.message)
+            self.read(taken.offset, taken.text)
 
-    def read(self, offset: int, message: Message) -> None:
-        self.journals.origin = Origin(self.stream.name, offset, self.bridge.count.barrier.machine)
+    def read(self, offset: int, text: str) -> None:
+        self.journals.origin = Origin(self.stream.name, offset, self.rule.barrier.machine)
         try:
-            self.bridge.read(message)
-        except (Diverged, RefusedRecord) as fault:
+            self.rule.read(text)
+        except RefusedRecord as fault:
             raise refusal_of(self.journals.origin, str(fault)) from fault
-        if self.is_gap(message):
+        if self.own.is_gap(text) and self.rule.state is State.SERVING:
             self.write_again()
         self.watcher.was_read()
 
-    def is_gap(self, message: Message) -> bool:
-        """Whether a message of this bridge doesn't count, since one before it was lost."""
-        if self.bridge.state is not State.SERVING or not isinstance(message, Records):
-            return False
-        if message.name != self.bridge.barrier.name or message.sequence <= self.rewritten:
-            return False
-        return not all(self.bridge.count.has(*record.at) for record in message.records)
+    def write(self, text: str) -> None:
+        """Writes a message, which comes back in a while."""
+        self.own.wrote(text)
+        self.stream.write(text)
 
     def wrote(self) -> None:
         """Records were written: they come back in a while."""
@@ -114,9 +112,9 @@ class StreamReader:
     def write_again(self) -> None:
         """Writes what didn't come back on a new channel."""
         self.wrote()
-        self.rewritten = self.bridge.sequence
+        self.own.forget()
         self.stream.write_anew()
-        self.bridge.write_again()
+        self.rule.write_again()
 
     def look(self, now: float) -> None:
         """Writes again what didn't come back, and reads by a new channel if nothing comes: nobody tells of either."""
@@ -132,6 +130,6 @@ class StreamReader:
 
     def is_owed(self) -> bool:
         """Whether something was written that didn't come back."""
-        if self.bridge.state in (State.READING, State.BEGINNING):
+        if self.rule.state in (State.READING, State.BEGINNING):
             return True
-        return self.bridge.state is State.SERVING and any(True for _ in self.bridge.last_uncounted())
+        return self.rule.state is State.SERVING and bool(self.journals.uncounted())

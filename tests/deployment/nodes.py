@@ -290,9 +290,14 @@ def truncates_what_does_not_count(tally: Tally) -> None:
         with Seals(host.journal(0)) as seals, seals.locked():
             tally.expect(seals.count, 3, "the seals")
         other = Record(0, 3, f"s {PANS[0]}ffff 00 9")
-        journals.counted(journals.record(0, 2))
+        journals.count_to(0, 3)
         journals.put(other)
-        journals.counted(other)
+        journals.count_to(0, 4)
+        try:
+            journals.count_to(0, 5)
+            tally.fail("a record that isn't there counts")
+        except TransientFault as fault:
+            tally.holds("which has 4" in str(fault), f"a record that isn't there counts: {fault}")
         journals.standby.end_now()
         with open(host.journal(0), encoding="ascii") as text:
             tally.expect(text.read().splitlines()[1:], [*lines[:3], other.text], "the records then")
@@ -413,7 +418,7 @@ def notes_are_kept(tally: Tally) -> None:
         for place in range(2, MOST_LINES + 2):
             notes.append(json.dumps({"number": f"n/{place}", "answer": ""}))
         while notes.beyond:
-            notes.counted(Record(NOTES, notes.count, notes.text(notes.count)))
+            notes.count_next()
         notes.append("{}")
         first, lines = read_notes(host.name)
         tally.expect((first + len(lines), lines[-1]), (MOST_LINES + 3, "{}"), "the place of the last note")

@@ -45,6 +45,9 @@ KEY = bytes(range(32))
 class Machine:
     """One machine: its NODE.json, its journals, and its node."""
 
+    # The program that decides by the rule; none if it is empty.
+    rule = ""
+
     def __init__(
         self, room: str, name: str, url_file: str, program: str, partitions: Sequence[int], callers: int = 1
     ) -> None:
@@ -66,6 +69,7 @@ class Machine:
             "broker_file": url_file,
             "cluster_key_file": self.key_file,
             "program": program,
+            "rule": self.rule,
             "figures": 0,
         }
         self.write({**told, "partitions": [self.partition(number) for number in partitions]})
@@ -156,6 +160,13 @@ class Machine:
 
     def hosts(self) -> list[int]:
         """Returns the process ids of what the node runs over journals."""
+        return [child for child in self.children() if b"--journal" in words_of_process(child)]
+
+    def rules(self) -> list[int]:
+        """Returns the process ids of the programs that decide for the node's partitions."""
+        return [child for child in self.children() if self.rule.encode() in words_of_process(child)]
+
+    def children(self) -> list[int]:
         assert self.process is not None
         try:
             with open(f"/proc/{self.process.pid}/task/{self.process.pid}/children", encoding="ascii") as text:
@@ -219,6 +230,15 @@ class Machine:
         """Returns the number of the last barrier that counts, once the position has it."""
         wait_until(lambda: self.position(number)["barrier"][0] > 0, 20)
         return int(self.position(number)["barrier"][0])
+
+
+def words_of_process(process: int) -> list[bytes]:
+    """Returns the words of a process; none if it has ended."""
+    try:
+        with open(f"/proc/{process}/cmdline", "rb") as text:
+            return text.read().split(b"\0")
+    except OSError:
+        return []
 
 
 class History(NamedTuple):

@@ -6,8 +6,8 @@ and begins again from its journals and a place in the stream that it kept some t
 stream and has no key of the cluster, writes to it.
 """
 import collections
-from collections.abc import Callable, Iterator
-from typing import NamedTuple, Optional, Protocol
+from collections.abc import Callable, Hashable, Iterator
+from typing import NamedTuple, Optional, Protocol, Union
 
 from issuer_host.replication.bridge_rule import BridgeRule
 from issuer_host.replication.message_mac import MessageMacs
@@ -31,7 +31,9 @@ from issuer_host.replication.rule_events import (
     Lost,
     Publish,
     AppendRecord,
+    BarrierCounts,
     Ready,
+    RecordsCount,
     Reply,
     PartitionRule,
     Stop,
@@ -64,6 +66,13 @@ class Opener(Protocol):
 FORGERIES = ("text", "barrier", "records", "header", "moved", "again")
 
 
+class WorldRule(PartitionRule, Protocol):
+    """A rule of which a world can be told from another one."""
+
+    def state(self) -> Hashable:
+        """Returns what a later step depends on, and the journals and the position don't say."""
+
+
 class Broken(Exception):
     """A promise is broken."""
 
@@ -90,7 +99,7 @@ class Node:
     It does what `deploy/node` does around a rule: it tells events, and carries out what the rule says.
     """
 
-    rule: PartitionRule
+    rule: "WorldRule"
 
     def __init__(self, world: "World", number: int) -> None:
         self.world = world
@@ -100,6 +109,8 @@ class Node:
         self.position = 0
         # What counts up to there, by the rule in words.
         self.count = Count()
+        # And what the rule has said of it.
+        self.said = Count()
         self.kept = Kept(0, self.count.barrier, tuple(self.count.records))
         self.names = 0
         self.is_in_line = self.has_host = self.is_serving = False
@@ -131,6 +142,8 @@ class Node:
             self.reply(action.number)
         elif isinstance(action, Stop):
             raise Diverged(action.why)
+        elif isinstance(action, (BarrierCounts, RecordsCount)):
+            self.hear_counts(action)
         elif isinstance(action, Ready):
             self.is_in_line, self.is_serving = True, False
         elif isinstance(action, Begin):
@@ -138,6 +151,18 @@ class Node:
         elif isinstance(action, End):
             return self.end_host()
         return []
+
+    def hear_counts(self, action: Union[BarrierCounts, RecordsCount]) -> None:
+        """The rule says what counts: as the rule in words has it, and each change once."""
+        if isinstance(action, BarrierCounts):
+            is_right = self.said.barrier != action.barrier == self.count.barrier
+            self.said.barrier = action.barrier
+        else:
+            is_right = self.said.records[action.shard] < action.number == self.count.records[action.shard]
+            self.said.records[action.shard] = action.number
+        has_all = all(count <= len(records) for count, records in zip(self.said.records, self.held))
+        if not is_right or not has_all:
+            raise Broken(f"the rule says {action}, where {self.count.barrier} and {self.count.records} count")
 
     def reply(self, number: int) -> None:
         if number not in self.waiting:
@@ -188,6 +213,8 @@ class Node:
         if message is not None:
             self.count.take(message)
             self.tell(MessageRead(text_of(message)))
+            if (self.said.barrier, self.said.records) != (self.count.barrier, self.count.records):
+                raise Broken(f"the rule doesn't say that {self.count.barrier} and {self.count.records} count")
 
     def keep(self) -> None:
         self.kept = Kept(self.position, self.count.barrier, tuple(self.count.records))
@@ -247,6 +274,7 @@ class Node:
         self.waiting.clear()
         self.position = self.kept.position
         self.count = Count(self.kept.barrier, self.kept.records)
+        self.said = Count(self.kept.barrier, self.kept.records)
         self.rule = self.world.new_rule(Beginning(f"m{self.number}", self.kept.barrier, self.kept.records))
         self.known = list(self.kept.records[: self.world.shards])
         for event in (*self.news(), Told(), Connected(self.new_name())):
@@ -263,7 +291,7 @@ class World:
 
     def __init__(
         self,
-        new_rule: Callable[[Beginning], PartitionRule] = BridgeRule,
+        new_rule: "Callable[[Beginning], WorldRule]" = BridgeRule,
         machines: int = 2,
         shards: int = 1,
         macs: Opener = MessageMacs(STREAM, [KEY]),

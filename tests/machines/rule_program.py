@@ -10,7 +10,7 @@ from issuer_host.replication.rule_events import Action, Beginning, Event
 from issuer_host.replication.rule_lines import TURN_END, action_of, lines_of_beginning, lines_of_event
 
 
-class RuleProgram:
+class SharedProgram:
     """A program that decides."""
 
     def __init__(self, command: Sequence[str]) -> None:
@@ -49,12 +49,12 @@ class RuleProgram:
 class ProgramRule:
     """A rule of a program."""
 
-    def __init__(self, program: RuleProgram, beginning: Beginning) -> None:
+    def __init__(self, program: SharedProgram, beginning: Beginning) -> None:
         self.program = program
         self.beginning = lines_of_beginning(beginning)
         self.turns: list[list[str]] = []
 
-    def take(self, event: Event) -> Sequence[Action]:
+    def take(self, *events: Event) -> Sequence[Action]:
         """Takes what happened. Returns what is to be done, in this order."""
         if self.program.has is not self:
             self.program.has = self
@@ -62,8 +62,17 @@ class ProgramRule:
                 self.program.ask([line])
             for turn in self.turns:
                 self.program.ask(turn)
-        self.turns.append(lines_of_event(event))
-        return self.program.ask(self.turns[-1])
+        actions: list[Action] = []
+        for event in events:
+            self.turns.append(lines_of_event(event))
+            actions += self.program.ask(self.turns[-1])
+        return actions
 
     def state(self) -> Hashable:
         return tuple(tuple(turn) for turn in self.turns)
+
+    def look(self) -> None:
+        pass
+
+    def end(self) -> None:
+        pass

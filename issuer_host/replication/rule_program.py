@@ -1,0 +1,160 @@
+"""A rule that is a program: events are lines to it, and actions lines of it (`rule_lines`).
+
+One process decides for one partition, from a position on. It has no file, no connection and no clock. A node writes the
+turns of what happened together and reads their answers, which takes some microseconds. If the program ends, is silent,
+or answers what is no answer, another one begins from the position: until then nobody is answered.
+"""
+import contextlib
+import os
+import select
+import subprocess
+import time
+from collections.abc import Callable, Sequence
+
+from issuer_host.replication.messages import MessageFault, SHOWN
+from issuer_host.replication.rule_events import Action, Beginning, Event, Publish, Stop
+from issuer_host.replication.rule_lines import TURN_END, action_of, lines_of_beginning, lines_of_event
+from issuer_host.replication.standby_run import TransientFault
+
+# A program that answers nothing for so long is killed: a turn takes it some microseconds.
+SILENT_SECONDS = 5.0
+END_SECONDS = 1.0
+PIECE = 1 << 16
+PUBLISH = "publish "
+
+
+class RuleProgram:
+    """`rule_events.PartitionRule` by a process of its own."""
+
+    def __init__(
+        self,
+        command: Sequence[str],
+        beginning: Beginning,
+        seconds: float = SILENT_SECONDS,
+        clock: Callable[[], float] = time.monotonic,
+    ) -> None:
+        self.seconds, self.clock = seconds, clock
+        # (if the node dies both pipes end, and so does the program)
+        self.process = subprocess.Popen(command, stdin=subprocess.PIPE, stdout=subprocess.PIPE, bufsize=0)
+        assert self.process.stdin is not None and self.process.stdout is not None
+        self.input, self.output = self.process.stdin, self.process.stdout
+        for pipe in (self.input, self.output):
+            os.set_blocking(pipe.fileno(), False)
+        try:
+            self.ask([[line] for line in lines_of_beginning(beginning)])
+        except TransientFault:
+            self.end()
+            raise
+
+    def take(self, *events: Event) -> Sequence[Action]:
+        """Takes what happened, in this order. Returns what is to be done, in this order."""
+        return self.ask([lines_of_event(event) for event in events])
+
+    def look(self) -> None:
+        if self.process.poll() is not None:
+            raise TransientFault(f"the rule's program ended with {self.process.returncode}")
+
+    def end(self) -> None:
+        """Ends the program: it has nothing that another one needs."""
+        self.process.kill()
+        self.process.wait()
+        self.input.close()
+        self.output.close()
+
+    def ask(self, turns: "Sequence[Sequence[str]]") -> "Sequence[Action]":
+        """Writes the lines of turns, and returns the actions of their answers."""
+        text = "".join(f"{line}\n" for turn in turns for line in turn)
+        unwritten = memoryview(text.encode("latin-1"))
+        answer = TurnAnswers(len(turns))
+        deadline = self.clock() + self.seconds
+        while not answer.is_whole:
+            unwritten = self.write(unwritten)
+            self.wait(bool(unwritten), deadline)
+            self.read(answer)
+        return answer.actions
+
+    def write(self, unwritten: memoryview) -> memoryview:
+        """Writes what the pipe takes, and returns what it doesn't."""
+        try:
+            return unwritten[os.write(self.input.fileno(), unwritten) :] if unwritten else unwritten
+        except BlockingIOError:
+            return unwritten
+        except BrokenPipeError:
+            # (it is ending; its output's end says how)
+            return unwritten[:0]
+
+    def wait(self, writes: bool, deadline: float) -> None:
+        """Waits until the program has answered, or takes more."""
+        poll = select.poll()
+        poll.register(self.output.fileno(), select.POLLIN)
+        if writes:
+            poll.register(self.input.fileno(), select.POLLOUT)
+        left = deadline - self.clock()
+        if left <= 0 or not poll.poll(left * 1000):
+            raise TransientFault(f"the rule's program answered nothing for {self.seconds:.0f} seconds")
+
+    def read(self, answer: "TurnAnswers") -> None:
+        """Takes what the program has answered so far."""
+        with contextlib.suppress(BlockingIOError):
+            piece = os.read(self.output.fileno(), PIECE)
+            if not piece and answer.stops():
+                answer.is_whole = True
+            elif not piece:
+                raise TransientFault(f"the rule's program ended with {self.status()}")
+            try:
+                answer.take(piece)
+            except (ValueError, KeyError, MessageFault) as fault:
+                raise TransientFault(f"the rule's program answered what is no answer: {fault}") from fault
+
+    def status(self) -> int:
+        """Returns the status of a program that has closed its output."""
+        with contextlib.suppress(subprocess.TimeoutExpired):
+            return self.process.wait(END_SECONDS)
+        self.process.kill()
+        return self.process.wait()
+
+
+class TurnAnswers:
+    """What a program has answered to so many turns so far: the actions, and whether that is all."""
+
+    def __init__(self, turns: int) -> None:
+        self.actions: "list[Action]" = []
+        self.is_whole = not turns
+        # How many turns aren't answered.
+        self.turns = turns
+        # The bytes after the last newline, and a message whose lines are coming: how many more there are.
+        self.unread = b""
+        self.message: "list[str]" = []
+        self.lines_of_message = 0
+
+    def take(self, piece: bytes) -> None:
+        """Takes the next bytes. A ValueError, a KeyError or a MessageFault says that they are no answer."""
+        *lines, self.unread = (self.unread + piece).split(b"\n")
+        for line in lines:
+            self.take_line(line.decode("latin-1"))
+
+    def take_line(self, line: str) -> None:
+        if self.is_whole:
+            raise ValueError(f"{line[:SHOWN]!r}, which nobody asked for")
+        if self.lines_of_message:
+            self.take_line_of_message(line)
+        elif line == TURN_END:
+            self.turns -= 1
+            self.is_whole = not self.turns
+        elif line.startswith(PUBLISH):
+            self.lines_of_message = int(line[len(PUBLISH) :])
+        else:
+            self.actions.append(action_of(line, iter(())))
+            if self.stops():
+                self.turns = 1
+
+    def stops(self) -> bool:
+        """Whether the program stops: it answers nothing more, but for the turn's end."""
+        return bool(self.actions) and isinstance(self.actions[-1], Stop)
+
+    def take_line_of_message(self, line: str) -> None:
+        self.message.append(line)
+        self.lines_of_message -= 1
+        if not self.lines_of_message:
+            self.actions.append(Publish("".join(f"{one}\n" for one in self.message)))
+            self.message = []
