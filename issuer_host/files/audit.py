@@ -34,9 +34,15 @@ class Audit:
     """The log of a partition's journals."""
 
     def __init__(
-        self, journal: str, name: str, most_bytes: int = MOST_BYTES, later: Optional[Callable[[Action], object]] = None
+        self,
+        journal: str,
+        name: str,
+        most_bytes: int = MOST_BYTES,
+        later: Optional[Callable[[Action], object]] = None,
+        full_files: int = FULL_FILES,
     ) -> None:
         """`later` calls an action in a moment: lines are written then, together. Without it each is written at once."""
+        self.full_files = full_files
         self.path = journal + ENDING
         self.later = later
         # Lines that aren't written yet, and how each begins.
@@ -116,7 +122,7 @@ class Audit:
 
     def move(self) -> None:
         """Gives a full file the next ending, and those before it the ones after theirs."""
-        for number in range(FULL_FILES, 0, -1):
+        for number in range(self.full_files, 0, -1):
             before = f"{self.path}.{number - 1}" if number > 1 else self.path
             if os.path.exists(before):
                 os.replace(before, f"{self.path}.{number}")

@@ -1,4 +1,4 @@
-"""What stands beside the hosts, by the gateway's arguments: the spool of advices, and the account."""
+"""What stands beside the hosts, by the gateway's arguments: the spool of advices, the log of messages, the account."""
 
 import argparse
 
@@ -7,6 +7,7 @@ from issuer_host.gateway.account_links import check_place, linked
 from issuer_host.gateway.account_order import AccountOrder
 from issuer_host.gateway.advices import Advices, Memory
 from issuer_host.gateway.gateway import Gateway
+from issuer_host.gateway.message_log import MessageLog
 from issuer_host.gateway.options import ORDERS, SILENCES, BadOptions
 from issuer_host.gateway.spool import SpoolQueue, SpoolWriter
 
@@ -19,6 +20,10 @@ def add_to(gateway: Gateway, options: argparse.Namespace) -> None:
         spool = SpoolQueue(gateway.loop, SpoolWriter(options.spool), memory, seconds, gateway.limited.tell)
         gateway.handling.advices = Advices(spool, memory)
         gateway.beside.append(spool)
+    if options.trace:
+        log = MessageLog(gateway.loop, options.trace, options.partitions)
+        gateway.handling.log = log
+        gateway.beside.append(log)
     if options.account:
         account = account_of(gateway, options, spool)
         gateway.handling.order = AccountOrder(account, options.account_order == ORDERS[1])

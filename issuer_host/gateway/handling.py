@@ -39,7 +39,7 @@ class MessagePeer(Protocol):
 class Exchange:
     """A message, and what becomes of it."""
 
-    __slots__ = ("peer", "message", "began", "line", "answer", "verdict")
+    __slots__ = ("peer", "message", "began", "line", "answer", "verdict", "why")
 
     def __init__(self, peer: MessagePeer, message: Message, began: float) -> None:
         """The message's time limit began when its last byte had arrived."""
@@ -49,6 +49,8 @@ class Exchange:
         self.answer: Optional[str] = None
         # What the account said, if it was asked.
         self.verdict = ""
+        # Why no host was asked.
+        self.why = ""
 
     @property
     def name(self) -> str:
@@ -62,6 +64,13 @@ class Exchange:
         return f"{' '.join(said)} of {self.peer.address}{card}"
 
 
+class AnswerLog(Protocol):
+    """Notes what was answered."""
+
+    def note(self, exchange: Exchange, response: Optional[Message], code: str) -> None:
+        """A message was answered with this code in element 39, or got no response."""
+
+
 class Handling:
     """Handles the messages of all connections."""
 
@@ -72,6 +81,8 @@ class Handling:
         self.figures, self.limited, self.ask, self.made_room = figures, limited, ask, made_room
         # Asks the account beside the host; without it the host alone is asked.
         self.order: Optional[AccountOrder] = None
+        # Notes each message that was answered.
+        self.log: Optional[AnswerLog] = None
         # Stores what is acknowledged; without it nothing is.
         self.advices: Optional[Advices] = None
 
@@ -97,6 +108,7 @@ class Handling:
             self.limited.tell(f"a message of {peer.address} can't be read: {fault.why}")
             return
         exchange = Exchange(peer, fault.so_far, began)
+        exchange.why = f"it can't be read: {fault.why}"
         self.limited.tell(f"{exchange.name} can't be read: {fault.why}")
         if mapping.what_to_do(fault.so_far.kind) != mapping.PASS_OVER:
             self.settle(exchange, mapping.BAD_FORMAT)
@@ -105,9 +117,14 @@ class Handling:
         """Asks a host, if the message becomes a request line."""
         line = requests.line_of(exchange.peer.dialect, exchange.message, datetime.date.today())
         if not isinstance(line, RequestLine):
+            exchange.why = line.why
             self.limited.tell(f"{exchange.name} is answered without a host: {line.why}")
             self.settle(exchange, line.outcome)
             return
+        self.put(exchange, line)
+
+    def put(self, exchange: Exchange, line: RequestLine) -> None:
+        """Asks for a request line, if it wasn't reversed."""
         exchange.line = line
         self.hold(exchange)
         if self.advices and self.advices.memory.was_reversed(exchange.message, line.pan):
@@ -155,6 +172,9 @@ class Handling:
         def stored(code: Optional[str]) -> None:
             if code is not None:
                 self.respond(exchange, responses.response_to(peer.dialect, message, code))
+            elif self.log is not None:
+                exchange.why = "it can't be stored, and gets no response"
+                self.log.note(exchange, None, "")
             self.let_go(exchange)
 
         self.hold(exchange)
@@ -168,6 +188,7 @@ class Handling:
             self.settle(exchange, mapping.REVERSED if is_stored else mapping.NO_DECISION)
             self.let_go(exchange)
 
+        exchange.why = "it came after its reversal"
         self.limited.tell(f"{exchange.name} came after its reversal, and isn't approved")
         advices.note_late(peer.dialect, exchange.message, peer.address, stored)
 
@@ -184,4 +205,6 @@ class Handling:
         self.respond(exchange, responses.settled(exchange.peer.dialect, exchange.message, outcome))
 
     def respond(self, exchange: Exchange, response: Message) -> None:
-        exchange.peer.respond(response, exchange.began)
+        code = exchange.peer.respond(response, exchange.began)
+        if self.log is not None:
+            self.log.note(exchange, response, code)

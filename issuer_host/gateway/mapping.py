@@ -132,19 +132,6 @@ def code_of(response_code: bytes, approves: bool, edition: str) -> str:
     return OTHER_CODES[approves].code[edition]
 
 
-def approval_code(shard: int, place: int) -> str:
-    """Element 38: six digits or letters, never 000000, that no other decision of a host has.
-
-    They come again after 136,048,895 records of a shard.
-    """
-    number = (place * 16 + shard) % (36**6 - 1) + 1
-    digits = ""
-    for _ in range(6):
-        number, digit = divmod(number, 36)
-        digits = "0123456789ABCDEFGHIJKLMNOPQRSTUVWXYZ"[digit] + digits
-    return digits
-
-
 # What is done with a message, by its type's second, third and fourth digits (class, function, origin).
 DECIDE, ECHO, DECLINE, PASS_OVER = "decide", "echo", "decline", "pass over"
 ACKNOWLEDGE = "acknowledge"

@@ -38,6 +38,7 @@ def parser_of(usage: str) -> argparse.ArgumentParser:
     parser.add_argument("--orders", default="")
     parser.add_argument("--last-run", default="")
     parser.add_argument("--spool", default="")
+    parser.add_argument("--trace", default="")
     parser.add_argument("--account", default="")
     parser.add_argument("--account-milliseconds", type=int, default=500)
     parser.add_argument("--account-silent", choices=SILENCES, default=SILENCES[0])

@@ -3,6 +3,7 @@
 from typing import NamedTuple, Optional
 
 from issuer_host.facts import answers
+from issuer_host.facts.approval_codes import approval_code
 from issuer_host.gateway import mapping
 from issuer_host.gateway.dialect import Dialect
 from issuer_host.gateway.message import Message, Value
@@ -58,7 +59,7 @@ def answered(dialect: Dialect, request: Message, answer: str) -> Message:
     code = mapping.code_of(decision.response_code, decision.approves, dialect.edition)
     more: dict[int, Value] = {mapping.CHIP: decision.data}
     if decision.approves:
-        more[mapping.APPROVAL] = mapping.approval_code(decision.shard, decision.place)
+        more[mapping.APPROVAL] = approval_code(decision.shard, decision.place)
     return response_to(dialect, request, code, more)
 
 

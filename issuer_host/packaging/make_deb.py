@@ -40,6 +40,7 @@ COMMANDS = {
     "ask": "issuer-ask",
     "order": "issuer-order",
     "advices": "issuer-advices",
+    "trace": "issuer-trace",
     "partition": "issuer-partition",
     "repartition": "issuer-repartition",
     "follow": "issuer-follow",
