@@ -1,4 +1,4 @@
-"""The proof of the program: one run of the toolchain's own gate over a copy of the crates that it stands on."""
+"""The proof of the programs: one run of the toolchain's own gate over a copy of the crates that they stand on."""
 import fcntl
 import os
 import re
@@ -14,13 +14,13 @@ from typing import NoReturn, Optional
 
 from issuer_host.building.estimate import write_seconds
 from issuer_host.building.progress import Progress
-from issuer_host.facts.paths import BUILD, HOME, PROGRAM, RECORD
+from issuer_host.facts.paths import BUILD, HOME, ProgramName, RECORD
 from issuer_host.facts.proof import sum_of
 from issuer_host.facts.version import version
 from issuer_host.launcher.messages import complain, minutes, stop, tell
 from issuer_host.launcher.program_run import SIGNALS, ending_with_launcher
 from issuer_host.launcher.proved_program import sum_of_proof, why_unproved, write_json
-from issuer_host.launcher.sources import Crate, PROOF_PARTS, TOP, crates_below, files_of, sources_of
+from issuer_host.launcher.sources import Crate, PROOF_PARTS, crates_below, files_of, programs_of, sources_of
 from issuer_host.launcher.toolchain import kit_of, toolchain
 
 LOG = os.path.join(BUILD, "prove.log")
@@ -35,7 +35,7 @@ LINE = 300
 
 
 def prove(words: Sequence[str]) -> int:
-    """Proves the program and builds it. Returns 0 if .build/issuer is the proved program of these sources."""
+    """Proves the programs and builds them. Returns 0 if those in .build are the proved ones of these sources."""
     rt = toolchain()
     if not rt:
         stop("the toolchain's command `rt` isn't on the path, so nothing can be proved")
@@ -79,7 +79,7 @@ def copy_sources(to: str, crates: Mapping[str, Crate]) -> None:
 
 
 def prove_in(room: str, rt: str, words: Sequence[str]) -> int:
-    """Proves a copy of the sources in a folder. It installs the program if the gate passed all crates of it."""
+    """Proves a copy of the sources in a folder. It installs the programs if the gate passed all crates of it."""
     began = time.monotonic()
     crates, is_kept = crates_below(HOME), keeps(rt)
     copy_sources(f"{room}/issuer", crates)
@@ -99,8 +99,8 @@ def prove_in(room: str, rt: str, words: Sequence[str]) -> int:
             run.kill()
             run.wait()
     write_seconds(progress.seconds(), crates)
-    made = f"{copy}/crates/{TOP}/out/{TOP}"
-    if status or last != f"{len(crates)} passed, 0 failed" or not os.path.isfile(made):
+    made = {program: f"{copy}/crates/{program.top}/out/{program.top}" for program in programs_of(HOME)}
+    if status or last != f"{len(crates)} passed, 0 failed" or not all(map(os.path.isfile, made.values())):
         stop_unproved(is_kept)
     # (the gate remembers sums of the sources, so it doesn't see a change while it runs)
     if sources_of(copy) != sources:
@@ -167,18 +167,22 @@ def last_lines(path: str) -> Iterable[str]:
         return text.read().splitlines()[-LAST_LINES:]
 
 
-def install(made: str, sources: dict[str, str], kit: str) -> None:
-    """Leaves the program and the record of its proof."""
-    new = f"{PROGRAM}.new"
-    shutil.copyfile(made, new)
-    os.chmod(new, 0o755)
+def install(made: Mapping[ProgramName, str], sources: dict[str, str], kit: str) -> None:
+    """Leaves the programs and the record of their proof."""
+    sums = {}
+    for program, path in made.items():
+        new = f"{program.path}.new"
+        shutil.copyfile(path, new)
+        os.chmod(new, 0o755)
+        sums[program.member] = sum_of(new)
     record = {
         "sum": sum_of_proof(sources, kit),
         "kit": kit,
         "version": version(),
-        "program": sum_of(new),
+        **sums,
         "sources": sources,
         "at": time.strftime("%Y-%m-%dT%H:%M:%SZ", time.gmtime()),
     }
-    os.replace(new, PROGRAM)
+    for program in made:
+        os.replace(f"{program.path}.new", program.path)
     write_json(RECORD, record)

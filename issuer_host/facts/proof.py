@@ -3,7 +3,7 @@ import hashlib
 import json
 from typing import Any, NamedTuple
 
-from issuer_host.facts.paths import PROGRAM, RECORD
+from issuer_host.facts.paths import HOST, PROGRAM, ProgramName, RECORD
 
 PIECE = 1 << 20
 
@@ -40,9 +40,9 @@ def program_at(path: str) -> ProgramIdentity:
     return ProgramIdentity(found, found == read_record().get("program"))
 
 
-def is_proved(program: str = PROGRAM, record: str = RECORD) -> bool:
+def is_proved(program: str = PROGRAM, record: str = RECORD, name: ProgramName = HOST) -> bool:
     """Whether the program is the one that the record of its proof names."""
-    named = read_record(record).get("program")
+    named = read_record(record).get(name.member)
     try:
         return named is not None and named == sum_of(program)
     except FileNotFoundError:

@@ -1,4 +1,4 @@
-"""Whether the built program is the proved one of the sources at hand, and its runs."""
+"""Whether the built programs are the proved ones of the sources at hand, and runs of the host."""
 import contextlib
 import hashlib
 import json
@@ -8,7 +8,7 @@ from collections.abc import Sequence
 from typing import Any, Optional
 
 from issuer_host.facts.commands import CLEARING, CONFIG, JOURNAL, OVER_JOURNALS, value_of
-from issuer_host.facts.paths import BUILD, HOME, PROGRAM, RECORD
+from issuer_host.facts.paths import BUILD, HOME, HOST, PROGRAM, PROGRAMS, RECORD
 from issuer_host.facts.proof import read_record
 from issuer_host.files.placement import put_in_place
 from issuer_host.files.run_mark import lock_mark
@@ -25,7 +25,7 @@ STAMPS = os.path.join(BUILD, "issuer.stamps")
 KEYED_PROGRAM = os.path.join(HOME, "issuer_host/start/keyed_program.py")
 SYSTEM_PYTHON = "/usr/bin/python3"
 NO_PROGRAM = "no proved program is built"
-NOT_THE_PROVED = "the program in .build isn't the one that was proved"
+NOT_THE_PROVED = "the program {} in .build isn't the one that was proved"
 
 # What tells whether a file was touched; None if it doesn't exist.
 Stamp = Optional[list[int]]
@@ -45,8 +45,8 @@ def stamp_of(path: str) -> Stamp:
 
 
 def stamps() -> dict[str, Stamp]:
-    """Returns what tells whether a source, the program or the toolchain was touched. It reads none but crates.txt."""
-    paths = [f"{HOME}/crates.txt", f"{HOME}/HANDLES", PROGRAM, RECORD]
+    """Returns what tells whether a source, a program or the toolchain was touched. It reads none but crates.txt."""
+    paths = [f"{HOME}/crates.txt", f"{HOME}/HANDLES", RECORD, *(program.path for program in PROGRAMS)]
     for crate in crates_below(HOME):
         paths += files_of(HOME, crate, PROOF_PARTS)
     rt = toolchain()
@@ -63,13 +63,13 @@ def write_json(path: str, value: dict[str, Any]) -> None:
 
 
 def why_unproved() -> Optional[str]:
-    """Returns why the built program isn't the proved program of these sources, or None if it is."""
+    """Returns why the built programs aren't the proved ones of these sources, or None if they are."""
     record = read_record()
     if not os.path.isfile(PROGRAM) or "sources" not in record:
         return NO_PROGRAM
     if not os.path.exists(f"{HOME}/crates.txt"):
         # An installed copy has no sources that could have changed.
-        return None if sum_or_word(PROGRAM) == record.get("program") else NOT_THE_PROVED
+        return why_another(record, BUILD)
     now, seen = stamps(), read_record(STAMPS)
     if seen.get("sum") == record.get("sum") and seen.get("files") == now:
         return None
@@ -79,10 +79,20 @@ def why_unproved() -> Optional[str]:
     return why
 
 
-def why_changed(record: dict[str, Any], program: str = PROGRAM) -> Optional[str]:
-    """Returns what isn't as the record of the proof says: the program, a source or the toolchain; None if all is."""
-    if sum_or_word(program) != record.get("program"):
-        return NOT_THE_PROVED
+def why_another(record: dict[str, Any], folder: str) -> Optional[str]:
+    """Returns which program of a folder isn't the one that was proved; None if each is that one."""
+    for program in PROGRAMS:
+        named = record.get(program.member)
+        if (named or program is HOST) and sum_or_word(os.path.join(folder, program.file)) != named:
+            return NOT_THE_PROVED.format(program.file)
+    return None
+
+
+def why_changed(record: dict[str, Any], folder: str = BUILD) -> Optional[str]:
+    """Returns what isn't as the record of the proof says: a program, a source or the toolchain; None if all is."""
+    why = why_another(record, folder)
+    if why is not None:
+        return why
     proved, sources = record.get("sources", {}), sources_of(HOME)
     changed = [name for name in {**proved, **sources} if proved.get(name) != sources.get(name)]
     if changed:

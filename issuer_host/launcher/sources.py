@@ -1,12 +1,13 @@
-"""The crates that the program stands on, and the sums of all that a proof of it reads beside the toolchain."""
+"""The crates that the programs stand on, and the sums of all that a proof of them reads beside the toolchain."""
 import hashlib
 import os
 from collections.abc import Iterable
 from typing import NamedTuple
 
+from issuer_host.facts.paths import HOST, PROGRAMS, ProgramName
 from issuer_host.facts.proof import sum_of
 
-TOP = "issuer_main"
+TOP = HOST.top
 PROOF_PARTS = ("src", "specs", "proofs")
 
 
@@ -29,8 +30,14 @@ def rows_of(home: str) -> dict[str, Crate]:
     return rows
 
 
-def crates_below(home: str, top: str = TOP) -> dict[str, Crate]:
-    """Returns a crate, the program unless another is named, and those below it, each after those that it names."""
+def programs_of(home: str) -> list[ProgramName]:
+    """Returns the programs that a tree has."""
+    rows = rows_of(home)
+    return [program for program in PROGRAMS if program.top in rows]
+
+
+def crates_below(home: str, *tops: str) -> dict[str, Crate]:
+    """Returns crates, the programs unless others are named, and those below them, each after those that it names."""
     rows = rows_of(home)
     found: dict[str, Crate] = {}
 
@@ -40,7 +47,8 @@ def crates_below(home: str, top: str = TOP) -> dict[str, Crate]:
                 visit(below)
             found[name] = Crate(rows[name].line, [below for below in rows[name].names if below in rows])
 
-    visit(top)
+    for top in tops or [program.top for program in programs_of(home)]:
+        visit(top)
     return found
 
 
@@ -66,7 +74,7 @@ def sum_or_word(path: str) -> str:
 
 
 def sources_of(home: str) -> dict[str, str]:
-    """Returns the sums of all that a proof of the program reads: by crate, of its line and its files."""
+    """Returns the sums of all that a proof of the programs reads: by crate, of its line and its files."""
     found = {}
     for name, crate in crates_below(home).items():
         total = hashlib.sha256(crate.line.encode())

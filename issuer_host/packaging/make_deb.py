@@ -1,11 +1,11 @@
-"""Makes the Debian package of the proved program, the same bytes each time.
+"""Makes the Debian package of the proved programs, the same bytes each time.
 
 usage: deploy/make-deb [--from FOLDER] [--to FOLDER]
 
---from  where `./issuer prove` left the program and the record of its proof (.build)
+--from  where `./issuer prove` left the programs and the record of their proof (.build)
 --to    where the package goes (.build)
 
-It has the program and its record, the launcher without what builds and proves, the commands of this folder with what
+It has the programs and their record, the launcher without what builds and proves, the commands of this folder with what
 they stand on, the service units, manual pages and pages. It needs dpkg-deb. The time of all files is SOURCE_DATE_EPOCH,
 and the maintainer DEBFULLNAME and DEBEMAIL, or else those of the last commit. It prints the package's path.
 """
@@ -23,7 +23,7 @@ from typing import NamedTuple
 
 from issuer_host import INSTALLED
 from issuer_host.facts import version
-from issuer_host.facts.paths import BUILD, HOME
+from issuer_host.facts.paths import BUILD, HOME, HOST, PROGRAMS
 from issuer_host.facts.proof import is_proved, read_record
 from issuer_host.facts.refusal import Refusal, tell
 from issuer_host.launcher.proved_program import why_changed
@@ -100,17 +100,20 @@ def standby_of(unit: str) -> str:
     return found.replace("--figures 10000", "--second --figures 20000")
 
 
-def add_program(tree: Tree, built: str) -> None:
-    """Adds the program, if the record of its proof names it and no source changed since."""
-    program = os.path.join(built, "issuer")
+def add_programs(tree: Tree, built: str) -> None:
+    """Adds the programs, if the record of their proof names them and no source changed since."""
+    program = os.path.join(built, HOST.file)
     record = os.path.join(built, "issuer.proved")
     if not os.path.isfile(program) or not is_proved(program, record):
         what = "has no program with the record of its proof: run ./issuer prove, or name another folder by --from"
         raise Refusal(f"{built} {what}")
-    why = why_changed(read_record(record), program)
+    said = read_record(record)
+    why = why_changed(said, built)
     if why:
         raise Refusal(f"{why}: run ./issuer prove before a package is made")
-    tree.copy(program, f"{PRIVATE}/.build/issuer", 0o755)
+    for one in PROGRAMS:
+        if one.member in said:
+            tree.copy(os.path.join(built, one.file), f"{PRIVATE}/.build/{one.file}", 0o755)
     with open(record, encoding="utf-8") as text:
         tree.write(f"{PRIVATE}/.build/issuer.proved", json.dumps(json.load(text), sort_keys=True) + "\n")
     with open(os.path.join(HOME, "issuer"), encoding="utf-8") as text:
@@ -202,7 +205,7 @@ def make(options: PackageOptions) -> str:
     os.umask(0o022)
     with tempfile.TemporaryDirectory(prefix="issuer-deb-") as folder:
         tree = Tree(os.path.join(folder, "root"), epoch, number)
-        add_program(tree, options.built)
+        add_programs(tree, options.built)
         add_package(tree)
         add_commands(tree)
         add_pages(tree, maintainer)

@@ -36,10 +36,12 @@ class Package:
         os.mkdir(f"{self.folder}/built")
         shutil.copyfile(program, f"{self.folder}/built/issuer")
 
-    def write_record(self, **more: str) -> None:
+    def write_record(self, rule: str = "", **more: str) -> None:
+        """Writes the record of a proof, which names the program that decides by the rule if its sum is given."""
         rt = toolchain()
         kit = kit_of(rt) if rt else "a trial"
-        record = {"program": sum_of(f"{self.folder}/built/issuer"), "sources": sources_of(HOME) | more, "kit": kit}
+        programs = {"program": sum_of(f"{self.folder}/built/issuer"), **({"rule": rule} if rule else {})}
+        record = {**programs, "sources": sources_of(HOME) | more, "kit": kit}
         write_text(self.folder, "built/issuer.proved", json.dumps(record))
 
     def make(self, tally: Tally) -> Ran:
@@ -89,6 +91,20 @@ def refuses_a_program_of_other_sources(tally: Tally) -> None:
     record = {"program": sum_of(f"{package.folder}/built/issuer")}
     write_text(package.folder, "built/issuer.proved", json.dumps(record))
     fails(tally, package.make(tally), "a record that names no sources", "changed since the program was proved")
+
+
+def has_both_programs(tally: Tally) -> None:
+    """A package has the program that decides by the rule of several machines too, if the record names it."""
+    package = Package(tally.program)
+    rule = f"{package.folder}/built/issuer-rule"
+    write_text(package.folder, "built/issuer-rule", "a program\n")
+    package.write_record(rule=sum_of(rule))
+    run_tool(tally, "dpkg-deb", "-x", package.made(tally), package.root).check_returncode()
+    tally.expect(sum_of(package.path(f"{PRIVATE}/.build/issuer-rule")), sum_of(rule), "the program in the package")
+    write_text(package.folder, "built/issuer-rule", "another program\n")
+    fails(tally, package.make(tally), "another program than the record's", "issuer-rule in")
+    os.remove(rule)
+    fails(tally, package.make(tally), "no program that the record names", "issuer-rule in")
 
 
 def has_the_same_bytes(tally: Tally) -> None:
@@ -191,6 +207,7 @@ CHECKS = [
     for body in (
         refuses_an_unproved_program,
         refuses_a_program_of_other_sources,
+        has_both_programs,
         has_the_same_bytes,
         has_version_and_licence,
         runs_the_packaged_program,
