@@ -9,7 +9,16 @@ from typing import Optional
 from issuer_host.configuration import members as rules_of
 from issuer_host.configuration.faults import CheckedConfiguration
 from issuer_host.configuration.json_text import Members, Node
-from issuer_host.configuration.members import AES_PAIR, CARDS, CONFIDENTIALITY, KEYS, KNOWN, TABLE
+from issuer_host.configuration.members import (
+    AES_PAIR,
+    CARDS,
+    CHECK_VALUE,
+    CONFIDENTIALITY,
+    KEYS,
+    KNOWN,
+    TABLE,
+    WRAPPED,
+)
 from issuer_host.configuration.weak_keys import weaknesses, with_odd_parity
 from issuer_host.facts.masks import masked
 
@@ -82,9 +91,10 @@ def likely(name: str, known: tuple[str, ...]) -> str:
 
 
 def of_keys(rows: list[tuple[int, Node]]) -> Iterator[Caution]:
-    """Keys that are weak, and keys that are there twice."""
+    """Keys that are weak, and keys that are there twice: wrapped ones by their check values."""
     first_of: dict[Hashable, str] = {}
     for index, row in rows:
+        yield from of_wrapped_keys(f"{KEYS.name}[{index}].{WRAPPED}", row, first_of)
         for name in (*TRIPLE_DES, *AES_PAIR):
             text = rules_of.text_in(row, name)
             if not text:
@@ -99,6 +109,27 @@ def of_keys(rows: list[tuple[int, Node]]) -> Iterator[Caution]:
                 yield Caution(offset, f"{at} is the same key as {first}: each use has a key of its own")
 
 
+def of_wrapped_keys(at: str, row: Node, first_of: dict[Hashable, str]) -> Iterator[Caution]:
+    for name, key in wrapped_in(row).items():
+        value = rules_of.text_in(key, CHECK_VALUE).upper()
+        first = first_of.setdefault((name in AES_PAIR, CHECK_VALUE, value), f"{at}.{name}")
+        if first != f"{at}.{name}":
+            says = f"{at}.{name} has the check value of {first}: each use has a key of its own"
+            yield Caution(key.offset, says)
+
+
+def wrapped_in(row: Node) -> dict[str, Node]:
+    """Returns the wrapped keys of a key set, each by what it is for."""
+    members = row.value.get(WRAPPED) if isinstance(row.value, Members) else None
+    found = members.value if members else None
+    return {name: member.node for name, member in found.by_name.items()} if isinstance(found, Members) else {}
+
+
+def has_key(row: Node, name: str) -> bool:
+    """Whether a key set has a key for this use, in clear or wrapped."""
+    return bool(rules_of.text_in(row, name)) or name in wrapped_in(row)
+
+
 def of_aes_key(key: bytes) -> Iterator[str]:
     if len(set(key)) == 1:
         yield "all its bytes are equal"
@@ -107,7 +138,7 @@ def of_aes_key(key: bytes) -> Iterator[str]:
 def of_suites(rows: list[tuple[int, Node]]) -> Iterator[Caution]:
     """Key sets that lack keys which others have: cards under such a key set are refused for want of a key."""
     for name, what in ((AES_PAIR[0], "cards with AES keys"), (CONFIDENTIALITY, "PIN changes")):
-        lacking = [(index, row) for index, row in rows if not rules_of.text_in(row, name)]
+        lacking = [(index, row) for index, row in rows if not has_key(row, name)]
         if len(lacking) == len(rows):
             continue
         for index, row in lacking:

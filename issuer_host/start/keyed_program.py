@@ -18,6 +18,7 @@ from issuer_host.facts.memory import keep_from_others
 from issuer_host.facts.refusal import Refusal, tell
 from issuer_host.facts.statuses import Status
 from issuer_host.start.held_configuration import read_configuration, refused_pin_path, with_configuration
+from issuer_host.start.history_checks import APPENDING
 
 NAME = "issuer"
 
@@ -28,8 +29,8 @@ def main(words: Sequence[str]) -> int:
     try:
         configuration = read_configuration(value_of(CONFIG, given))
         configuration.find_token()
-        journal = value_of(JOURNAL, given)
-        configuration.unwrap(refused_pin_path(journal) if journal else "")
+        # (the others are started by a person, and over copies of another user's journals too)
+        configuration.unwrap(refused_pin_path(value_of(JOURNAL, given)) if given[0] in APPENDING else "")
         path = configuration.path_for_program(is_readable=True)
         os.execv(program, [program, *with_configuration(given, path)])
     except Refusal as refusal:
