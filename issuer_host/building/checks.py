@@ -10,6 +10,7 @@ WITHOUT_PROGRAM = (
     "tests/machines/replication --short",
     "tests/host/lifecycle",
     "tests/machines/availability",
+    "tests/gateway/dialects",
     "tests/gateway/admission",
     "tests/pages/definitions --check",
     "tests/sources/crates",

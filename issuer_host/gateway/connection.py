@@ -5,7 +5,7 @@ from typing import Optional, Protocol, cast
 
 from issuer_host.gateway import mapping, responses
 from issuer_host.gateway.figures import GatewayFigures
-from issuer_host.gateway.frames import BadFrame, FrameBuffer, KEEP_ALIVES_A_SECOND, KeepAlives, frame_of
+from issuer_host.gateway.frames import BadFrame, FrameBuffer, KEEP_ALIVES_A_SECOND, KeepAlives, framer_of
 from issuer_host.gateway.handling import Handling
 from issuer_host.gateway.log import Limited
 from issuer_host.gateway.message import Codec, Message, Unreadable, Unwritable
@@ -48,6 +48,7 @@ class Connection(asyncio.BufferedProtocol):
     def __init__(self, owner: ConnectionOwner, codec: Codec, loop: asyncio.AbstractEventLoop) -> None:
         self.owner, self.codec, self.dialect, self.loop = owner, codec, codec.dialect, loop
         self.buffer, self.keep_alives = FrameBuffer(self.dialect, owner.limits.frame), KeepAlives()
+        self.frame_of = framer_of(self.dialect.frame)
         self.transport: Optional[asyncio.Transport] = None
         self.in_flight = 0
         # Where the peer is.
@@ -172,7 +173,7 @@ class Connection(asyncio.BufferedProtocol):
         if self.transport is not None:
             if not self.unsent:
                 self.loop.call_soon(self.send)
-            self.unsent.append(frame_of(self.dialect, data))
+            self.unsent.append(self.frame_of(data))
         return code
 
     def send(self) -> None:

@@ -1,30 +1,67 @@
-"""Frames: a message with its length before it, in two bytes.
+"""Frames: headers and a message, with their length before them.
 
-A buffer of fixed size holds what was read and isn't a whole frame yet. A frame of length 0 is a keep-alive: it has no
-message, and is passed over.
+A buffer of fixed size holds what was read and isn't a whole frame yet. A frame of length 0, or of headers alone, is a
+keep-alive: it has no message, and is passed over.
 """
 
+from collections.abc import Callable
 from typing import Optional
 
-from issuer_host.gateway.dialect import Dialect
+from issuer_host.gateway.dialect import BCD, BEFORE_ZEROS, BINARY, Dialect, FrameLength
 
-LENGTH_BYTES = 2
 GREATEST_FRAME = 0xFFFF
 LEAST_BUFFER = 8192
 # So many keep-alives of a connection are passed over in a second.
 KEEP_ALIVES_A_SECOND = 10
+# A response has no more than that beside what it echoes: elements 38, 39 and 55, a second bitmap.
+RESPONSE_BYTES = 512
+ZEROS = b"\0\0"
 
 
 class BadFrame(Exception):
     """Bytes that begin no frame, and why: what follows them can't be read either."""
 
 
+def most_of(form: FrameLength) -> int:
+    """What a frame's length counts to."""
+    if form.form == BINARY:
+        return (1 << 8 * form.width) - 1
+    digits = 2 * form.width if form.form == BCD else form.width
+    return 0xFFFF if form.form == BEFORE_ZEROS else int("9" * digits)
+
+
+def length_reader(form: FrameLength) -> Callable[[bytes], int]:
+    """What reads a frame's length."""
+    if form.form == BINARY:
+        return lambda piece: int.from_bytes(piece, "big")
+    if form.form == BEFORE_ZEROS:
+        return read_before_zeros
+
+    def read(piece: bytes) -> int:
+        text = piece.hex() if form.form == BCD else piece.decode("latin-1")
+        if not (text.isascii() and text.isdecimal()):
+            raise BadFrame(f"the length of a frame isn't decimal: {piece.hex()} in hexadecimal digits")
+        return int(text)
+
+    return read
+
+
+def read_before_zeros(piece: bytes) -> int:
+    if piece[2:] != ZEROS:
+        raise BadFrame(f"two zeros follow the length of a frame, and {piece[2:].hex()} does")
+    return int.from_bytes(piece[:2], "big")
+
+
 class FrameBuffer:
     """What a connection has read: `room` is filled by the reader, `next` cuts frames from it."""
 
     def __init__(self, dialect: Dialect, limit: int) -> None:
-        self.limit, self.more = limit, LENGTH_BYTES if dialect.counts_itself else 0
-        self.data = bytearray(max(LEAST_BUFFER, 2 * (limit + LENGTH_BYTES)))
+        form = dialect.frame
+        self.width, self.more = form.width, form.width if form.counts_itself else 0
+        # (a response to the longest message has a length too)
+        self.limit = min(limit, most_of(form) - RESPONSE_BYTES)
+        self.read_length, self.empty = length_reader(form), dialect.header_bytes
+        self.data = bytearray(max(LEAST_BUFFER, 2 * (limit + self.width)))
         self.view = memoryview(self.data)
         self.begin = self.end = 0
         # Keep-alives that were passed over.
@@ -50,29 +87,30 @@ class FrameBuffer:
         return self.begin == self.end
 
     def next(self) -> Optional[bytes]:
-        """The next whole frame's message, or None if it isn't whole yet. BadFrame if its length is none."""
-        length = self.length()
-        while length == 0:
-            self.begin += LENGTH_BYTES
-            self.keep_alives += 1
+        """The next whole frame's headers and message, or None if it isn't whole yet. BadFrame if its length is none."""
+        while True:
             length = self.length()
-        if length is None:
-            return None
-        if length > self.limit:
-            raise BadFrame(f"a frame of {length} bytes, and {self.limit} are the most")
-        at = self.begin + LENGTH_BYTES
-        if self.end - at < length:
-            return None
-        self.begin = at + length
-        return bytes(self.view[at : self.begin])
+            if length is None:
+                return None
+            if length > self.limit:
+                raise BadFrame(f"a frame of {length} bytes, and {self.limit} are the most")
+            at = self.begin + self.width
+            if self.end - at < length:
+                return None
+            self.begin = at + length
+            if length > self.empty:
+                return bytes(self.view[at : self.begin])
+            if 0 < length < self.empty:
+                raise BadFrame(f"a frame of {length} bytes, and its headers have {self.empty}")
+            self.keep_alives += 1
 
     def length(self) -> Optional[int]:
-        """The length of the next message: 0 of a keep-alive, None if it isn't there yet."""
-        if self.end - self.begin < LENGTH_BYTES:
+        """The length of the next frame: 0 of a keep-alive, None if it isn't there yet."""
+        if self.end - self.begin < self.width:
             return None
-        written = int.from_bytes(self.view[self.begin : self.begin + LENGTH_BYTES], "big")
+        written = self.read_length(self.view[self.begin : self.begin + self.width].tobytes())
         if 0 < written < self.more:
-            raise BadFrame(f"a frame of length {written}, and a length counts its own {LENGTH_BYTES} bytes")
+            raise BadFrame(f"a frame of length {written}, and a length counts its own {self.width} bytes")
         return max(written - self.more, 0)
 
 
@@ -90,6 +128,18 @@ class KeepAlives:
         return count - self.before > KEEP_ALIVES_A_SECOND
 
 
+def framer_of(form: FrameLength) -> Callable[[bytes], bytes]:
+    """What puts the length before headers and message."""
+    width, more, how = form.width, form.width if form.counts_itself else 0, form.form
+    if how == BINARY:
+        return lambda data: (len(data) + more).to_bytes(width, "big") + data
+    if how == BEFORE_ZEROS:
+        return lambda data: (len(data) + more).to_bytes(2, "big") + ZEROS + data
+    if how == BCD:
+        return lambda data: bytes.fromhex(f"{len(data) + more:0{2 * width}}") + data
+    return lambda data: f"{len(data) + more:0{width}}".encode() + data
+
+
 def frame_of(dialect: Dialect, data: bytes) -> bytes:
-    """A message's bytes with their length."""
-    return (len(data) + LENGTH_BYTES * dialect.counts_itself).to_bytes(LENGTH_BYTES, "big") + data
+    """Headers and message with their length."""
+    return framer_of(dialect.frame)(data)

@@ -7,18 +7,22 @@ from typing import NamedTuple, Optional
 
 from issuer_host.facts.answers import RefusalNumber
 
-EDITIONS = ("1987", "1993")
+EDITIONS = ("1987", "1993", "2003")
 
-# The elements that the gateway itself reads or writes. They have one number in both editions, the date apart.
+# The elements that the gateway itself reads or writes. They have one number in all editions, the date apart.
 PAN, PROCESSING, AMOUNT, TRACK_2, PSN = 2, 3, 4, 35, 23
 STAN, RRN, TERMINAL = 11, 37, 41
 APPROVAL, CODE, CURRENCY, CHIP = 38, 39, 49, 55
-DATE = {"1987": 13, "1993": 12}
+DATE = {"1987": 13, "1993": 12, "2003": 12}
+DATE_LENGTH = {"1987": 4, "1993": 12, "2003": 14}
+CODE_LENGTH = {"1987": 2, "1993": 3, "2003": 4}
 AMOUNT_TAG, CURRENCY_TAG = "9F02", "5F2A"
 # An amount and its currency: of the transaction, of the settlement, and as the cardholder is billed. Where a link
 # converts amounts, any of them may be the one that the card certified.
 AMOUNTS = ((AMOUNT, CURRENCY), (5, 50), (6, 51))
 AMOUNT_DIGITS = 12
+# An amount of 2003: its currency, its exponent, and twelve digits.
+LONG_AMOUNT_DIGITS, LONG_CURRENCY, LONG_AMOUNT = 16, slice(0, 3), slice(4, 16)
 
 
 class RequestRow(NamedTuple):
@@ -46,8 +50,28 @@ REQUEST_ROWS = (
     RequestRow(both(AMOUNT), AMOUNT_TAG, True, both(AMOUNT_DIGITS)),
     RequestRow(both(CURRENCY), CURRENCY_TAG, True, both(3)),
     RequestRow(both(PROCESSING), "9C", False, both(6)),
-    RequestRow(DATE, "9A", False, {"1987": 4, "1993": 12}),
+    RequestRow(DATE, "9A", False, DATE_LENGTH),
 )
+
+
+class ElementRow(NamedTuple):
+    """A row of one edition."""
+
+    number: int
+    tag: str
+    is_compared: bool
+    length: int
+
+
+def rows_of(edition: str, has_long_amounts: bool) -> tuple[ElementRow, ...]:
+    """The rows of an edition. Long amounts have their currency within."""
+    rows = [ElementRow(it.element[edition], it.tag, it.is_compared, it.length[edition]) for it in REQUEST_ROWS]
+    if has_long_amounts:
+        rows = [
+            it._replace(number=AMOUNT, length=LONG_AMOUNT_DIGITS) if it.tag in (AMOUNT_TAG, CURRENCY_TAG) else it
+            for it in rows
+        ]
+    return tuple(rows)
 
 
 class Outcome(NamedTuple):
@@ -56,8 +80,13 @@ class Outcome(NamedTuple):
     code: dict[str, str]
 
 
+def of_2003(of_1993: str) -> str:
+    """The action code of 2003: that of 1993 with a zero after its first digit, a 1 where the message is at fault."""
+    return f"{of_1993[0]}{'1' if of_1993[0] == '9' else '0'}{of_1993[1:]}"
+
+
 def outcome(of_1987: str, of_1993: str) -> Outcome:
-    return Outcome({"1987": of_1987, "1993": of_1993})
+    return Outcome({"1987": of_1987, "1993": of_1993, "2003": of_2003(of_1993)})
 
 
 ACCEPTED = outcome("00", "800")
@@ -127,8 +156,8 @@ def code_of(response_code: bytes, approves: bool, edition: str) -> str:
     text = response_code.decode("latin-1")
     if edition == "1987" and text.isascii() and text.isalnum():
         return text
-    if edition == "1993" and text in ACTION_CODES:
-        return ACTION_CODES[text]
+    if edition != "1987" and text in ACTION_CODES:
+        return ACTION_CODES[text] if edition == "1993" else of_2003(ACTION_CODES[text])
     return OTHER_CODES[approves].code[edition]
 
 

@@ -8,7 +8,8 @@ from typing import NoReturn, Optional
 
 from issuer_host.facts.paths import HOME
 from issuer_host.files.private_files import check_secret
-from issuer_host.gateway.dialect import BadDialect, Dialect, named, read_dialect
+from issuer_host.gateway.dialect import Dialect
+from issuer_host.gateway.dialect_file import BadDialect, named, read_dialect, shipped_in
 from issuer_host.gateway.frames import GREATEST_FRAME
 from issuer_host.gateway.gateway import Bounds, Listener
 from issuer_host.gateway.message import Codec
@@ -119,7 +120,7 @@ def dialect_of(name: str) -> Dialect:
     try:
         return read_dialect(named(name, DIALECTS))
     except BadDialect as wrong:
-        shipped = ", ".join(sorted(it[: -len(".json")] for it in os.listdir(DIALECTS)))
+        shipped = ", ".join(shipped_in(DIALECTS))
         raise BadOptions(f"{wrong}; shipped are {shipped}") from wrong
 
 

@@ -109,21 +109,19 @@ def objects_beside(
 ) -> dict[str, bytes]:
     """The objects that the elements beside 55 make, by tag. Elements that have to agree, and don't, are refused."""
     made: dict[str, bytes] = {}
-    for row in mapping.REQUEST_ROWS:
-        number = row.element[dialect.edition]
+    for number, tag, is_compared, length in dialect.rows:
         text = message.elements.get(number)
-        if not isinstance(text, str) or row.tag in of_chip and not row.is_compared:
+        if not isinstance(text, str) or tag in of_chip and not is_compared:
             continue
-        length = row.length[dialect.edition]
-        value = value_of(row.tag, number, text, today) if length in (0, len(text)) else None
+        value = value_of(tag, number, text, today) if length in (0, len(text)) else None
         if value is None:
-            raise Disagreement(f"element {number} has no value that tag {row.tag} may have")
-        if row.tag in made and made[row.tag] != value:
-            raise Disagreement(f"element {number} differs from another one that makes tag {row.tag}")
-        is_other = row.tag in of_chip and normal(row.tag, of_chip[row.tag]) != value
-        if is_other and not (dialect.is_converted and row.tag in CONVERTED):
-            raise Disagreement(f"element {number} differs from tag {row.tag} of element 55")
-        made[row.tag] = value
+            raise Disagreement(f"element {number} has no value that tag {tag} may have")
+        if tag in made and made[tag] != value:
+            raise Disagreement(f"element {number} differs from another one that makes tag {tag}")
+        is_other = tag in of_chip and normal(tag, of_chip[tag]) != value
+        if is_other and not (dialect.is_converted and tag in CONVERTED):
+            raise Disagreement(f"element {number} differs from tag {tag} of element 55")
+        made[tag] = value
     return made
 
 
@@ -135,23 +133,30 @@ def check_converted(message: Message, of_message: dict[str, bytes], of_chip: dic
     amount, currency = of_chip.get(TAG_AMOUNT), of_chip.get(TAG_CURRENCY, of_message.get(TAG_CURRENCY))
     if amount is None or currency is None:
         return
-    compared = [it for it in mapping.AMOUNTS if currency_of(message, it[1]) == currency and it[0] in message.elements]
-    for number, _ in compared:
-        if amount_value(str(message.elements[number])) != amount:
+    compared = [it for it, code in mapping.AMOUNTS if currency_beside(message, it, code) == currency]
+    for number in compared:
+        if amount_value(str(message.elements.get(number))) != amount:
             raise Disagreement(f"element {number} differs from tag {TAG_AMOUNT} of element 55, in its currency")
     if not compared:
         raise Disagreement(f"none of elements 4, 5 and 6 has the currency of tag {TAG_CURRENCY} of element 55")
 
 
-def currency_of(message: Message, number: int) -> Optional[bytes]:
-    """The currency of an element, as its tag has it. An element that names none is a Disagreement."""
-    text = message.elements.get(number)
+def currency_beside(message: Message, amount: int, number: int) -> Optional[bytes]:
+    """The currency of an amount, as its tag has it: within a long amount, and else of an element of its own.
+
+    None if there is no such amount. An element that names no currency is a Disagreement.
+    """
+    whole = message.elements.get(amount)
+    if isinstance(whole, str) and len(whole) == mapping.LONG_AMOUNT_DIGITS:
+        text, number = whole[mapping.LONG_CURRENCY], amount
+    else:
+        text = message.elements.get(number)  # type: ignore[assignment]
     if text is None:
         return None
     found = currency_value(str(text))
     if found is None:
         raise Disagreement(f"element {number} is no currency of ISO 4217")
-    return found
+    return found if whole is not None else None
 
 
 def normal(tag: str, value: bytes) -> bytes:
@@ -169,7 +174,7 @@ def value_of(tag: str, number: int, text: str, today: datetime.date) -> Optional
         digits = text.partition(SEPARATOR)[0] if number == mapping.TRACK_2 else text
         return pan_value(digits) if 8 <= len(digits) <= 19 and digits.isdecimal() else None
     if tag == TAG_CURRENCY:
-        return currency_value(text)
+        return currency_value(text[mapping.LONG_CURRENCY] if number == mapping.AMOUNT else text)
     if not (text.isascii() and text.isdigit()):
         return None
     if tag == TAG_PSN:
@@ -178,10 +183,15 @@ def value_of(tag: str, number: int, text: str, today: datetime.date) -> Optional
         return amount_value(text)
     if tag == TAG_TYPE:
         return bytes.fromhex(text[:2])
-    return bytes.fromhex(text[:6]) if number == mapping.DATE["1993"] else date_value(text, today)
+    if number != mapping.DATE["1993"]:
+        return date_value(text, today)
+    # (with the century where the edition is that of 2003)
+    return bytes.fromhex(text[:6] if len(text) == mapping.DATE_LENGTH["1993"] else text[2:8])
 
 
 def amount_value(text: str) -> Optional[bytes]:
+    if len(text) == mapping.LONG_AMOUNT_DIGITS:
+        text = text[mapping.LONG_AMOUNT]
     return bytes.fromhex(text) if len(text) == mapping.AMOUNT_DIGITS and text.isascii() and text.isdigit() else None
 
 

@@ -33,9 +33,9 @@ def decision_of(answer: str) -> Optional[Decision]:
 def response_to(dialect: Dialect, request: Message, code: str, more: Optional[dict[int, Value]] = None) -> Message:
     """A response with this code: what it echoes of its request, and more."""
     elements = {it: request.elements[it] for it in dialect.echo if it in request.elements}
-    own: dict[int, Value] = {mapping.CODE: code, **(more or {})}
+    own: dict[int, Value] = {mapping.CODE: dialect.codes.get(code, code), **(more or {})}
     written = {it: data for it, data in request.written.items() if it not in own}
-    return Message(mapping.response_type(request.kind), elements | own, written)
+    return Message(mapping.response_type(request.kind), elements | own, written, request.header)
 
 
 def settled(dialect: Dialect, request: Message, outcome: mapping.Outcome) -> Message:
@@ -46,7 +46,8 @@ def malfunction(dialect: Dialect, response: Message) -> Message:
     """In place of a response that can't be written: what it echoes as it came, and the code of a malfunction."""
     echoed: dict[int, Value] = {it: response.elements[it] for it in response.written}
     code = mapping.MALFUNCTION.code[dialect.edition]
-    return Message(response.kind, {**echoed, mapping.CODE: code}, response.written)
+    own: dict[int, Value] = {**echoed, mapping.CODE: dialect.codes.get(code, code)}
+    return Message(response.kind, own, response.written, response.header)
 
 
 def answered(dialect: Dialect, request: Message, answer: str) -> Message:
@@ -65,8 +66,8 @@ def answered(dialect: Dialect, request: Message, answer: str) -> Message:
 
 def is_accepted(dialect: Dialect, request: Message) -> bool:
     """Whether a network message is accepted: sign-on, sign-off, an echo, or one that doesn't say."""
-    code = request.elements.get(dialect.network_element)
-    return code is None or code in dialect.accepted
+    code = request.elements.get(dialect.network.element)
+    return code is None or code in dialect.network.accepted
 
 
 def network_response(dialect: Dialect, request: Message) -> Message:

@@ -46,6 +46,7 @@ COMMANDS = {
     "follow": "issuer-follow",
     "standby": "issuer-standby",
     "gateway": "issuer-gateway",
+    "dialect": "issuer-dialect",
     "look": "issuer-look",
     "check": "issuer-check",
     "keys": "issuer-keys",

@@ -24,7 +24,7 @@ from switch.messages import Codec, Message
 
 DIALECTS = ("1987-ascii", "1993-packed")
 CODECS = {name: Codec(name) for name in DIALECTS}
-LISTENING = re.compile(r"(ISO 8583.*) on 127\.0\.0\.1 port ([0-9]+)")
+LISTENING = re.compile(r"gateway: (.*) on 127\.0\.0\.1 port ([0-9]+)")
 START_SECONDS, END_SECONDS = 60.0, 30.0
 ZEROS = "0" * 10
 
@@ -127,8 +127,18 @@ class Issuer:
 class Gateway:
     """A gateway under test: one listener a dialect, all that it writes kept."""
 
-    def __init__(self, issuer: Issuer, *words: str, hosts: Optional[list[str]] = None) -> None:
-        """`hosts` are the arguments that say where the hosts are, if they aren't the issuer's own."""
+    def __init__(
+        self,
+        issuer: Issuer,
+        *words: str,
+        hosts: Optional[list[str]] = None,
+        codecs: Optional[dict[str, Codec]] = None,
+    ) -> None:
+        """`hosts` are the arguments that say where the hosts are, if they aren't the issuer's own.
+
+        `codecs` are those of the dialects at which it listens, by name or by file.
+        """
+        self.codecs = CODECS if codecs is None else codecs
         self.command = [os.path.join(HOME, "deploy/gateway"), *(issuer.words() if hosts is None else hosts), *words]
         # The file of a dialect, where it isn't the shipped one.
         self.files: dict[str, str] = {}
@@ -147,13 +157,13 @@ class Gateway:
             self.end()
 
     def start(self) -> None:
-        places = (f"{self.ports.get(name, 0)}={self.files.get(name, name)}" for name in DIALECTS)
+        places = (f"{self.ports.get(name, 0)}={self.files.get(name, name)}" for name in self.codecs)
         listen = [it for place in places for it in ("--listen", place)]
         self.process = subprocess.Popen([*self.command, *listen], stderr=subprocess.PIPE, text=True)
         self.listening = set()
         threading.Thread(target=self.read, args=(self.process,), daemon=True).start()
         until = time.monotonic() + START_SECONDS
-        while len(self.listening) < len(DIALECTS):
+        while len(self.listening) < len(self.codecs):
             if self.process.poll() is not None or time.monotonic() > until:
                 self.process.kill()
                 self.process.wait()
@@ -166,12 +176,12 @@ class Gateway:
             self.said += line
             found = LISTENING.search(line)
             if found and process is self.process:
-                name = next(it for it in DIALECTS if CODECS[it].rules["name"] == found[1])
+                name = next(it for it, codec in self.codecs.items() if codec.rules["name"] == found[1])
                 self.ports[name] = int(found[2])
                 self.listening.add(name)
 
     def place(self, dialect: str = DIALECTS[0]) -> Place:
-        return Place("127.0.0.1", self.ports[dialect], CODECS[dialect])
+        return Place("127.0.0.1", self.ports[dialect], self.codecs[dialect])
 
     def connect(self, dialect: str = DIALECTS[0], seconds: float = 30.0) -> socket.socket:
         return socket.create_connection(("127.0.0.1", self.ports[dialect]), seconds)
@@ -213,27 +223,26 @@ class Taps:
 
     def next(self, dialect: str = DIALECTS[0], amount: int = 1250) -> tuple[Any, Message]:
         """The card, its open transaction's message."""
+        return self.tap(CODECS[dialect], amount)
+
+    def tap(self, codec: Codec, amount: int = 1250) -> tuple[Any, Message]:
         self.number += 1
         card = self.cards[self.number % len(self.cards)]
         request = card.tap(amount=bytes.fromhex(f"{amount:012d}"))
-        return card, request_of(CODECS[dialect], request, self.number)
+        return card, request_of(codec, request, self.number)
 
 
 def frames_in(data: bytes, codec: Codec) -> Iterator[Message]:
     """The messages of whole frames."""
-    at = 0
-    while len(data) - at >= 2:
-        end = at + 2 + int.from_bytes(data[at : at + 2], "big")
-        if end > len(data):
-            return
-        yield codec.decode(data[at + 2 : end])
-        at = end
+    while (size := codec.frame_size(data)) is not None and len(data) >= codec.width + size:
+        yield codec.decode(data[codec.width : codec.width + size])
+        data = data[codec.width + size :]
 
 
 def receive(peer: socket.socket, codec: Codec) -> Optional[Message]:
     """The next message of a connection, or None at its end."""
-    head = receive_bytes(peer, 2)
-    body = receive_bytes(peer, int.from_bytes(head, "big")) if len(head) == 2 else b""
+    size = codec.frame_size(receive_bytes(peer, codec.width))
+    body = receive_bytes(peer, size) if size is not None else b""
     return codec.decode(body) if body else None
 
 

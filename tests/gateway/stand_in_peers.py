@@ -5,7 +5,8 @@ from collections.abc import Callable, Iterator
 from typing import Any, Optional, Union
 
 from gateway.gateways import DIALECTS
-from issuer_host.gateway.dialect import Dialect, named, read_dialect
+from issuer_host.gateway.dialect import Dialect
+from issuer_host.gateway.dialect_file import named, read_dialect
 from issuer_host.gateway.figures import GatewayFigures
 from issuer_host.gateway.handling import Handling
 from issuer_host.gateway.log import Limited

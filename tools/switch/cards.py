@@ -21,11 +21,17 @@ def card_tool() -> Any:
 TOOL = card_tool()
 
 # What a message has beside the card's data: a purchase at one terminal.
-PROCESSING, MERCHANT_TYPE, CHIP_ENTRY = "000000", "5999", {"1987": "051", "1993": "510101513346"}
+PROCESSING, MERCHANT_TYPE, CHIP_ENTRY = (
+    "000000",
+    "5999",
+    {"1987": "051", "1993": "510101513346", "2003": "510101513346"},
+)
 TERMINAL, MERCHANT, CURRENCY = "TERM0001", "MERCHANT0000001", "978"
+# The places of an amount with its currency.
+LONG_AMOUNT = 16
 # The objects that a message has in elements 2 and 23, and not in 55.
 BESIDE = ("5a", "5f34")
-APPROVED = {"1987": "00", "1993": "000"}
+APPROVED = {"1987": "00", "1993": "000", "2003": "0000"}
 
 
 def cards_of(config: str, dki: Optional[int] = None) -> list[Any]:
@@ -49,9 +55,13 @@ def request_of(codec: Codec, tapped: Any, number: int, is_repeat: bool = False) 
     amount, date = tapped.amount.hex(), tapped.date.hex()
     message: Message = {"type": f"{codec.version}10{int(is_repeat)}", 2: tapped.pan, 3: PROCESSING, 4: amount}
     message |= {7: f"{date[2:]}120000", 11: stan, 18: MERCHANT_TYPE, 22: CHIP_ENTRY[codec.edition]}
-    message |= {12: "120000", 13: date[2:]} if codec.edition == "1987" else {12: f"{date}120000", 24: "100"}
+    century = "20" * (codec.edition == "2003")
+    message |= {12: "120000", 13: date[2:]} if codec.edition == "1987" else {12: f"{century}{date}120000", 24: "100"}
     message |= {23: f"0{tapped.psn}", 37: reference, 41: TERMINAL, 42: MERCHANT, 49: CURRENCY, 55: chip}
-    return message
+    if codec.formats[4].size == LONG_AMOUNT:
+        message[4] = f"{message.pop(49)}2{amount}"
+    # (a dialect may lack what the gateway doesn't need)
+    return {it: value for it, value in message.items() if it == "type" or it in codec.formats}
 
 
 def repeat_of(message: Message) -> Message:
@@ -63,7 +73,8 @@ def network_request(codec: Codec, number: int) -> Message:
     stan = f"{number % 1_000_000:06d}"
     if codec.edition == "1987":
         return {"type": "0800", 7: "0115120000", 11: stan, 70: "301"}
-    return {"type": "1804", 11: stan, 12: "260115120000", 24: "831"}
+    century = "20" * (codec.edition == "2003")
+    return {"type": f"{codec.version}804", 11: stan, 12: f"{century}260115120000", 24: "831"}
 
 
 class Verdict(NamedTuple):
@@ -96,5 +107,7 @@ def differences(codec: Codec, request: Message, response: Message) -> list[str]:
     kind = request["type"]
     expected: Message = {"type": f"{kind[:2]}{int(kind[2]) + 1}{int(kind[3]) // 2 * 2}"}
     expected |= {it: request[it] for it in codec.rules["echo"] if it in request}
+    if "header" in request or codec.headers:
+        expected["header"] = codec.answered_header(request.get("header", codec.own_header()))
     odd = {it: value for it, value in expected.items() if response.get(it) != value}
     return [f"{it} is {response.get(it)}, and {value} was expected" for it, value in odd.items()]

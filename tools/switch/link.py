@@ -54,13 +54,14 @@ class Link(asyncio.Protocol):
 
     def data_received(self, data: bytes) -> None:
         self.unread += data
-        at = 0
-        while len(self.unread) - at >= 2:
-            end = at + 2 + int.from_bytes(self.unread[at : at + 2], "big") - self.codec.extra
-            if len(self.unread) < end:
+        at, width = 0, self.codec.width
+        while (size := self.codec.frame_size(self.unread[at : at + width])) is not None:
+            begin, at = at + width, at + width + max(size, 0)
+            if len(self.unread) < at:
+                at = begin - width
                 break
-            self.take(self.codec.decode(self.unread[at + 2 : end]))
-            at = end
+            if size > 0:
+                self.take(self.codec.decode(self.unread[begin:at]))
         self.unread = self.unread[at:]
 
     def take(self, response: Message) -> None:
