@@ -8,7 +8,7 @@ from issuer_host.facts.paths import HOME
 from issuer_host.facts.proof import sum_of
 from issuer_host.launcher.sources import sources_of
 from issuer_host.launcher.toolchain import kit_of, toolchain
-from issuer_host.packaging.make_deb import PRIVATE, add_commands, add_package, add_program
+from issuer_host.packaging.make_deb import PRIVATE, add_commands, add_package, add_programs
 from issuer_host.packaging.tree import Tree
 
 NEW = ".dpkg-new"
@@ -50,7 +50,7 @@ class Installed:
         with open(f"{path}.proved", "w", encoding="utf-8") as record:
             json.dump(record_of(path), record)
         tree = Tree(os.path.join(self.room, f"version-{self.version}"), int(time.time()), str(self.version))
-        add_program(tree, built)
+        add_programs(tree, built)
         add_package(tree)
         add_commands(tree)
         shutil.rmtree(built)
