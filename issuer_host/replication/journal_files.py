@@ -20,6 +20,8 @@ from issuer_host.replication.standby_run import StandbyRun, TransientFault
 from issuer_host.start.history_checks import is_locked
 
 PIECE = 1 << 16
+# So many records of a shard beyond those that count a rule is told at a start.
+MOST_BEYOND = 128
 LOOK = "the machines' journals aren't of one history; copy another machine's by deploy/node --copy"
 
 
@@ -76,8 +78,10 @@ class Shard:
 class JournalFiles:
     """`rule_turns.RuleJournals` over files."""
 
-    def __init__(self, journal: str, shards: int, position: Position, standby: StandbyRun) -> None:
-        self.journal = journal
+    def __init__(
+        self, journal: str, shards: int, position: Position, standby: StandbyRun, room: int = MOST_BEYOND
+    ) -> None:
+        self.journal, self.room = journal, room
         counted = zip(range(shards), position.counts, position.sizes)
         self.shards = [Shard(journal, number, count, size) for number, count, size in counted]
         self.notes = Notes(journal, position.counts[NOTES])
@@ -86,10 +90,17 @@ class JournalFiles:
         self.origin = NOWHERE
 
     def open(self) -> None:
-        """Reads what there is beyond what counts. No run has the journals open."""
+        """Reads what there is beyond what counts. No run has the journals open.
+
+        A rule has room for so many records of each shard. Those past them come again from the stream, or count nowhere.
+        """
         self.locked_mark().close()
         self.read_all()
         self.notes.open()
+        logs: "list[Union[Shard, Notes]]" = [*self.shards, self.notes]
+        for log in logs:
+            if len(log.beyond) > self.room:
+                self.truncate(log.number, log.count + self.room)
 
     def locked_mark(self) -> RunMark:
         """Locks the mark of the journals, which says that no run has them open."""

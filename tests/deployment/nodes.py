@@ -20,7 +20,7 @@ from issuer_host.files.seals import Seals
 from issuer_host.host.feed_run import limits_over
 from issuer_host.orders.intent_log import Begun, DECLINE, MOST_LINES
 from issuer_host.replication import cluster_keys, positions
-from issuer_host.replication.journal_files import JournalFiles
+from issuer_host.replication.journal_files import JournalFiles, MOST_BEYOND
 from issuer_host.replication.messages import Barrier, LOGS, NOTES, Record
 from issuer_host.replication.notes import Notes, as_note, read_notes, work_of, write_notes
 from issuer_host.replication.record_origins import FedLines, NOWHERE, Origin, RefusedRecord
@@ -261,12 +261,12 @@ class Files(NamedTuple):
     faults: "list[Exception]"
 
 
-def files_of(host: Host) -> Files:
+def files_of(host: Host, room: int = MOST_BEYOND) -> Files:
     faults: "list[Exception]" = []
     command = [*host_command(host), "--feed", "/dev/stdin"]
     loop: Any = NoLoop()
     run = StandbyRun(loop, command, host.name, "node", faults.append)
-    found = JournalFiles(host.name, SHARDS, positions.read(host.name), run)
+    found = JournalFiles(host.name, SHARDS, positions.read(host.name), run, room)
     found.open()
     return Files(found, faults)
 
@@ -303,6 +303,32 @@ def truncates_what_does_not_count(tally: Tally) -> None:
             tally.expect(text.read().splitlines()[1:], [*lines[:3], other.text], "the records then")
         tally.expect((journals.counts()[0], journals.length(0)), (4, 4), "how many count, and how many there are")
         tally.expect(journals.sizes()[0], os.path.getsize(host.journal(0)), "the bytes that count")
+        tally.expect(host.start().returncode, Status.OK, "the status of a start afterwards")
+
+
+def begins_with_what_a_rule_has_room_for(tally: Tally) -> None:
+    """Journals and notes that go far beyond the position are truncated at a start, with their seals."""
+    with new_host(tally) as host:
+        lines = records(host.begun(), 5)
+        host.start()
+        positions.write(host.name, position_of(host, 1, lines))
+        notes = [json.dumps({"number": f"n/{number}", "answer": ""}) for number in range(4)]
+        kept = Notes(host.name, 0)
+        kept.open()
+        for note in notes:
+            kept.append(note)
+        journals = files_of(host, room=4).journals
+        tally.expect(
+            (journals.length(0), journals.length(NOTES)), (5, 4), "what there is, as much as there is room for"
+        )
+        journals = files_of(host, room=3).journals
+        found = journals.length(0), journals.counts()[0], journals.length(NOTES)
+        tally.expect(found, (4, 1, 3), "what there is, what of it counts, and the notes")
+        with open(host.journal(0), encoding="ascii") as text:
+            tally.expect(text.read().splitlines()[1:], lines[:4], "the records then")
+        with Seals(host.journal(0)) as seals, seals.locked():
+            tally.expect(seals.count, 4, "the seals")
+        tally.expect(read_notes(host.name)[1], notes[:3], "the notes then")
         tally.expect(host.start().returncode, Status.OK, "the status of a start afterwards")
 
 
@@ -495,6 +521,7 @@ CHECKS = [
         copies_what_counts,
         only_a_node_appends_to_replicated_journals,
         truncates_what_does_not_count,
+        begins_with_what_a_rule_has_room_for,
         refuses_a_record_that_is_none,
         ends_a_run_of_standby_that_hangs,
         knows_the_message_of_a_line,
