@@ -37,7 +37,15 @@ from issuer_host.facts.statuses import Status
 from issuer_host.files.placement import put_in_place
 from issuer_host.keys import key_block
 from issuer_host.keys.ceremony_log import Ceremony, CeremonyLog
-from issuer_host.keys.components import Component, FEWEST, PROTECTION_LENGTHS, component_of, joined_key, protection_key
+from issuer_host.keys.components import (
+    Component,
+    FEWEST,
+    PROTECTION_LENGTHS,
+    component_of,
+    joined_key,
+    lacks_parity,
+    protection_key,
+)
 from issuer_host.keys.key_block import Header
 from issuer_host.keys.master_key import BadKey, check_key, check_value
 from issuer_host.keys.token import Token, opened_token
@@ -123,6 +131,8 @@ def join(options: argparse.Namespace) -> None:
     custodians = Custodians(options)
     components = custodians.components(f"key dki {options.dki} {use.value}", use.suite, (KEY_BYTES,))
     key = joined_key(use.suite, components, options.set_parity)
+    if lacks_parity(use.suite, components):
+        tell(NAME, "the exclusive or of the components has even parity: odd parity is set, and no check value changes")
     put(options, custodians, "joined", key, checked(components, use.suite))
 
 

@@ -51,7 +51,7 @@ def joined_key(suite: Suite, components: Sequence[Component], may_set_parity: bo
     values = [component.value for component in components]
     if len(set(values)) < len(values):
         raise BadKey("two components are equal: their exclusive or is nothing")
-    key = reduce(exclusive_or, values)
+    key = whole_of(components)
     if suite is Suite.TRIPLE_DES:
         odd = odd_bytes(key)
         if odd not in (0, KEY_BYTES) and not may_set_parity:
@@ -62,6 +62,15 @@ def joined_key(suite: Suite, components: Sequence[Component], may_set_parity: bo
         key = with_odd_parity(key)
     check_key(suite, key)
     return key
+
+
+def whole_of(components: Sequence[Component]) -> bytes:
+    return reduce(exclusive_or, (component.value for component in components))
+
+
+def lacks_parity(suite: Suite, components: Sequence[Component]) -> bool:
+    """Whether the key that components make for triple DES gets odd parity, which their exclusive or lacks."""
+    return suite is Suite.TRIPLE_DES and odd_bytes(whole_of(components)) < KEY_BYTES
 
 
 def exclusive_or(one: bytes, other: bytes) -> bytes:

@@ -15,7 +15,8 @@ from issuer_host.keys.ciphers import cmac, decrypt_cbc, encrypt_cbc
 from issuer_host.keys.master_key import CHECK_BYTES, BadKey
 from issuer_host.keys.uses import DES_BLOCK, KEY_BYTES, Suite, Use
 
-HEADER = re.compile(r"([A-Z])([0-9]{4})([A-Z0-9]{2})([A-Z])([A-Z])([A-Z0-9]{2})([A-Z])([0-9]{2})00")
+# (its version number begins with a `c` if the block has a component)
+HEADER = re.compile(r"([A-Z])([0-9]{4})([A-Z0-9]{2})([A-Z])([A-Z])([A-Z0-9c][A-Z0-9])([A-Z])([0-9]{2})00")
 HEADER_LENGTH = 16
 LENGTH_BYTES = 2
 OPTIONAL_HEAD = 4
