@@ -26,10 +26,13 @@ UNIT = "issuer-gateway"
 DIALECT = "1987-ascii"
 CARDS = ("4000000000000002,00,1", "4000000000000010,00,2", "4000000000000028,00,1")
 
+# Keys that no check warns of.
+KEYS = ("6D2B8F1A94C73E5027B6D1E8590CA3F4", "A91C5E70D38B4F26182D7AE3C5904FB6", "5E97A3C1084D6BF273A8C4E91D5F206B")
+
 
 def template() -> dict[str, Any]:
     # (bench/request_lines makes lines by the first of these keys)
-    keys = {"dki": 1, "option": "A", "ac": bytes(range(16)).hex(), "smi": "2" * 32}
+    keys = {"dki": 1, "option": "A", "ac": bytes(range(16)).hex(), "smi": KEYS[0]}
     table = [table_row("3036", False, "00000000", status=1), table_row("3030", True, "00800000")]
     return {"shards": 2, "keys": [keys], "table": table}
 
@@ -78,12 +81,13 @@ class Machine:
     def configure(self) -> None:
         """Writes what the operator has: cards and template, one with a second key set, a PIN, and the unit."""
         first = template()
-        more = first | {"keys": [first["keys"][0], first["keys"][0] | {"dki": 2, "ac": "3" * 32, "smi": "4" * 32}]}
+        more = first | {"keys": [first["keys"][0], first["keys"][0] | {"dki": 2, "ac": KEYS[1], "smi": KEYS[2]}]}
         cards = "".join(f"{line}\n" for line in ("pan,psn,method", *CARDS))
         self.write("etc/issuer/cards.csv", cards)
         self.write("root/cards.before.csv", f"{cards}4000000000000036,00,1\n")
         self.write("etc/issuer/template.json", json.dumps(first))
         self.write("root/template.json", json.dumps(more))
+        self.write("root/removed.json", json.dumps(more | {"keys": more["keys"][1:]}))
         whole = [
             {"pan": pan, "psn": psn, "method": int(method)} for pan, psn, method in (it.split(",") for it in CARDS)
         ]
