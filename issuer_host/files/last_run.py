@@ -14,9 +14,8 @@ from issuer_host.facts.journals import journal_path
 from issuer_host.facts.refusal import Refusal
 from issuer_host.files.open_journals import inode_of
 from issuer_host.files.regular_files import open_regular
-from issuer_host.files.run_mark import RunMark
+from issuer_host.files.run_mark import RunMark, new_run
 
-NAME_BYTES = 8
 FIRST = re.compile(r"run ([0-9a-f]{16})")
 LINE = re.compile(r"(\d{1,2}) (\d{1,20}) (\d{1,20})")
 MOST = 4096
@@ -68,7 +67,7 @@ def check(path: str, name: str, shards: int, mark: RunMark) -> None:
 
 def write(path: str, name: str, shards: int) -> str:
     """Writes which journals a run has that begins now. Returns the run's name."""
-    found = LastRun(os.urandom(NAME_BYTES).hex(), places_of(name, shards))
+    found = LastRun(new_run(), places_of(name, shards))
     lines = [f"{shard} {device} {inode}\n" for shard, (device, inode) in found.places.items()]
     new = f"{path}.new"
     try:

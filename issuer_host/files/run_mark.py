@@ -2,8 +2,8 @@
 
 The file `NAME.run` is locked by a run for as long as it lives: a careful start hands the lock over to the program. It
 has a line for each journal: the shard, the bytes of the journal's whole lines, and how many seals it has. While a run
-may append, each line ends with `+`: journal and seals had so much when the run began, and have no less since. Where a
-file outside the folder says which journals the last run had (`last_run`), a first line has that run's name.
+may append, each line ends with `+`: journal and seals had so much when the run began, and have no less since. A first
+line has the name of the last run that could append. A file outside the folder may name it too (`last_run`).
 """
 import fcntl
 import os
@@ -18,6 +18,7 @@ ENDING = ".run"
 MOST = 4096
 GROWS = "+"
 RUN = "run"
+NAME_BYTES = 8
 
 
 def text_of(shard: int, left: Left) -> str:
@@ -66,8 +67,8 @@ class RunMark:
         """From now on a run may append that no careful start began."""
         self.write({shard: left._replace(may_have_grown=True) for shard, left in self.left().items()})
 
-    def has_begun(self, run: str = "") -> None:
-        """From now on a run may append. The journals were checked, and all their records are sealed."""
+    def has_begun(self, run: str) -> None:
+        """From now on a run of this name may append. The journals were checked, and all their records are sealed."""
         self.write({shard: left._replace(may_have_grown=True) for shard, left in self.left_now().items()}, run)
 
     def was_checked(self, run: str = "") -> None:
@@ -150,6 +151,23 @@ def end_of_lines(file: int) -> int:
             return first + newline + 1
         at = first
     return 0
+
+
+def new_run() -> str:
+    """Returns a name for a run that none had before."""
+    return os.urandom(NAME_BYTES).hex()
+
+
+def last_run_of(name: str) -> str:
+    """Returns the name of the last run, by the mark beside journals; nothing if there is none."""
+    try:
+        mark = RunMark(name, open_regular(mark_path(name), os.O_RDONLY))
+    except OSError:
+        return ""
+    try:
+        return mark.run()
+    finally:
+        mark.close()
 
 
 def lock_mark(name: str, creates: bool = True) -> Optional[RunMark]:

@@ -4,7 +4,7 @@ from issuer_host.facts.limits import MAX_SHARDS
 from issuer_host.facts.refusal import Refusal, tell
 from issuer_host.files.durable_lines import FollowedJournal
 from issuer_host.files.open_journals import Look, open_journals
-from issuer_host.files.run_mark import lock_mark
+from issuer_host.files.run_mark import last_run_of, lock_mark
 from issuer_host.files.seals import Left, Seals, seals_of
 
 # So many pieces of a journal are sealed at a time, and so many of all journals are looked through for the records that
@@ -14,7 +14,11 @@ LOOKED_PIECES = 256
 
 
 class SealWriter:
-    """The journals that one run of a host writes. A fault ends the sealing and nothing else: the next start seals."""
+    """The journals that one run of a host writes. A fault ends the sealing and nothing else: the next start seals.
+
+    It is made before the run is started. So it knows at the end whether a run has begun: a start that is refused names
+    none in the mark.
+    """
 
     def __init__(self, name: str, by: str = "bridge") -> None:
         self.name = name
@@ -24,6 +28,8 @@ class SealWriter:
         self.durable: dict[int, int] = {}
         self.is_over = False
         self.files = open_journals(name)
+        # The last run that began before this one.
+        self.before = last_run_of(name)
 
     def answer(self, text: str) -> None:
         """Takes an answer: the record that it names is durable."""
@@ -86,7 +92,10 @@ class SealWriter:
         self.journals.clear()
 
     def end(self) -> None:
-        """The host has ended: what is appended from now on no run wrote. If another run has begun, that one says so."""
+        """The host has ended: what is appended from now on no run wrote. If another run has begun, that one says so.
+
+        If none has begun the start was refused, and the mark stays as it is: those journals may not be the run's.
+        """
         sealed = self.sealed()
         self.close()
         if self.files is not None and self.files.look() is not Look.SAME:
@@ -100,7 +109,8 @@ class SealWriter:
         if mark is None:
             return
         try:
-            mark.has_ended(sealed)
+            if mark.run() != self.before:
+                mark.has_ended(sealed)
         except OSError as fault:
             tell(self.by, f"the end of the run isn't marked: {fault.strerror}")
         finally:

@@ -142,6 +142,7 @@ class Supervisor:
             tell(self.name, f"the journals {self.journal} {REPLACED}")
             self.act(self.lifecycle.was_replaced())
             return
+        sealing = SealWriter(self.journal, self.name)
         try:
             self.run = HostProcess(self.loop, self.command, self.answered, self.ended)
         except OSError as fault:
@@ -150,7 +151,7 @@ class Supervisor:
             return
         self.waits += 1
         self.owed = 0
-        self.sealing = SealWriter(self.journal, self.name)
+        self.sealing = sealing
         self.lifecycle.started(self.clock(), limits_of(self.journal))
         self.owner.started()
         self.put(PROBE)

@@ -170,9 +170,11 @@ class JournalFiles:
         mark = self.locked_mark()
         try:
             size = found.forget_beyond(length)
+            has_ended = not any(left.may_have_grown for left in mark.left().values())
             mark.is_cut(shard, Left(size, min(length, count_seals(found.path)), True))
             cut(found.path, size, length)
-            mark.has_ended()
+            if has_ended:
+                mark.has_ended()
         finally:
             mark.close()
 

@@ -56,8 +56,9 @@ class StandbyRun:
         """Gives a record to the run, which is begun if there is none."""
         if not self.runs.takes_lines:
             self.end_now()
+            sealing = SealWriter(self.journal, self.name)
             self.runs.begin()
-            self.sealing = SealWriter(self.journal, self.name)
+            self.sealing = sealing
             self.fed.begin()
         number = self.runs.put(f"{record.shard} {record.place} {record.text}".encode("ascii"))
         self.fed.add(number, origin)
@@ -127,5 +128,6 @@ class StandbyRun:
         if origin is not None:
             return refusal_of(origin, f"standby ended with `{last}`, {meaning_of(status)}")
         if status in NEED_A_PERSON:
-            return Refusal(f"the records of the stream aren't taken into {self.journal}: {last}: {meaning_of(status)}")
+            why = f"{last}: {meaning_of(status)}" if last else meaning_of(status)
+            return Refusal(f"the records of the stream aren't taken into {self.journal}: {why}")
         return TransientFault(f"standby ended with {status}, {last or 'without a last line'}: {meaning_of(status)}")

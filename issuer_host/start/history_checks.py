@@ -10,7 +10,7 @@ from issuer_host.facts.journals import journal_path, old_journal_path
 from issuer_host.facts.refusal import tell
 from issuer_host.files import last_run
 from issuer_host.files.regular_files import open_regular
-from issuer_host.files.run_mark import RunMark, lock_mark, mark_path
+from issuer_host.files.run_mark import RunMark, lock_mark, mark_path, new_run
 from issuer_host.files.seals import Left, check_sealed
 from issuer_host.start.journal_checks import bytes_of
 from issuer_host.start.workers import do_all
@@ -45,7 +45,7 @@ def check_history(command: str, name: str, shards: int, accepts: bool, last: str
     do_all(list(paths), check, processes_for(list(paths)))
     run = last_run.write(last, name, shards) if last else ""
     if command in APPENDING or any(bytes_of(old_journal_path(name, shard)) for shard in range(shards)):
-        mark.has_begun(run)
+        mark.has_begun(run or new_run())
     else:
         mark.was_checked(run)
     mark.hand_over()

@@ -31,6 +31,8 @@ class PipedBridge:
         self.log = os.path.join(room, "log")
         with open(os.open(self.config, os.O_CREAT | os.O_WRONLY, 0o600), "w", encoding="utf-8") as text:
             json.dump(configuration, text)
+        # The file that says which journals the last run had; none if it is empty.
+        self.last_run = ""
         self.process: "Optional[subprocess.Popen[str]]" = None
         self.said: "queue.Queue[dict[str, Any]]" = queue.Queue()
         self.tag = 0
@@ -45,6 +47,7 @@ class PipedBridge:
         rest = [word for word in words if word != "--begin"]
         files = ["--config", self.config, "--journal", self.journal]
         start = os.path.join(HOME, "deploy/issuer-run")
+        begin += ["--last-run", self.last_run] if self.last_run else []
         return [start, *begin, "--program", self.program, rest[0], *files, *rest[1:]]
 
     def show(self, *words: str) -> dict[tuple[str, str], ShownCard]:

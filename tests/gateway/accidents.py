@@ -9,7 +9,7 @@ from collections.abc import Callable
 
 from gateway.gateways import Gateway, Issuer
 from issuer_host.facts.journals import journal_path
-from trials.bridges.accidents import AUDIT, DAMAGES, MARK, SEALS, WORK, older, program_of
+from trials.bridges.accidents import AUDIT, DAMAGES, MARK, SEALS, STARTS, WORK, copy_folder, older, program_of
 
 LOOK_SECONDS, SERVED_SECONDS, REFUSED_SECONDS = 0.1, 1.0, 40.0
 FULL_SECONDS, FULL_BYTES = 1.5, 100
@@ -60,11 +60,17 @@ class Accidents:
             self.put_back(kept)
 
     def pull_disk(self) -> None:
-        """A partition's disk goes away over an older copy of its files, with the seals and the mark of then."""
-        folder = self.folder()
-        self.gateway.end()
-        shutil.copytree(folder, f"{folder}.older")
-        self.gateway.start()
+        """A partition's disk goes away over an older copy of its files, with the seals and the mark of then.
+
+        The copy was made while the gateway was ended, or while it ran. No gateway may go on over it, nor if a person
+        starts it again without a look.
+        """
+        folder, is_running = self.folder(), self.chance.random() < 0.5
+        if not is_running:
+            self.gateway.end()
+        copy_folder(folder, f"{folder}.older")
+        if not is_running:
+            self.gateway.start()
         time.sleep(SERVED_SECONDS)
         before = self.gateway.said.count(REPLACED)
         size = os.path.getsize(f"{folder}.older/journal{AUDIT}")
@@ -72,10 +78,10 @@ class Accidents:
         os.rename(f"{folder}.older", folder)
         if not self.waits_for(lambda: self.gateway.said.count(REPLACED) > before):
             self.faults.append(f"a host went on though the files of {folder} were others")
-        self.gateway.end()
-        # (a gateway that is started over the copy refuses it too)
-        if not self.is_refused():
-            self.faults.append(f"a host was started over the older copy of {folder}")
+        for start in range(STARTS):
+            self.gateway.end()
+            if not self.is_refused():
+                self.faults.append(f"start {start} went on over the older copy of {folder}")
         self.gateway.end()
         add_log(f"{folder}/journal{AUDIT}", f"{folder}.away/journal{AUDIT}", size)
         shutil.rmtree(folder)

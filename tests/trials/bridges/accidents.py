@@ -10,7 +10,7 @@ import shutil
 import time
 from collections.abc import Callable, Iterator, Sequence
 
-from issuer_host.facts.journals import journal_path
+from issuer_host.facts.journals import POSITION, journal_path
 from issuer_host.facts.partitions import partition_journal
 from trials.bridges.farm import Farm, PARTITIONS, SHARDS
 from trials.bridges.managed import ManagedBridge, TERMINATE
@@ -21,6 +21,8 @@ LOOK_SECONDS, WATCHED_SECONDS = 0.1, 4.0
 KEPT, AWAY = ".kept", ".away"
 # So long a partition records before its disk goes away.
 SERVED_SECONDS = 2.0
+# So often a person starts what was refused without a look at its files.
+STARTS = 2
 SEALS, MARK, WORK, AUDIT = ".seals", ".run", ".work", ".audit"
 # What may befall a file beside the journals.
 DAMAGES: "dict[str, Callable[[str], object]]" = {}
@@ -67,6 +69,14 @@ def named_pipe(path: str) -> None:
     os.mkfifo(path, 0o600)
 
 
+def copy_folder(folder: str, to: str) -> None:
+    """Copies a folder's files, which may be written meanwhile: position and seals before the journals."""
+    os.mkdir(to)
+    for name in sorted(os.listdir(folder), key=lambda name: (not name.endswith(POSITION), not name.endswith(SEALS))):
+        with contextlib.suppress(FileNotFoundError):
+            shutil.copy2(os.path.join(folder, name), os.path.join(to, name))
+
+
 class Partition:
     """A partition whose bridges a person has stopped."""
 
@@ -79,7 +89,7 @@ class Partition:
     def copy(self) -> None:
         """Copies the folder's files. (The folder itself may be where a disk is mounted.)"""
         shutil.rmtree(self.folder + KEPT, ignore_errors=True)
-        shutil.copytree(self.folder, self.folder + KEPT)
+        copy_folder(self.folder, self.folder + KEPT)
 
     def put_back(self) -> None:
         for name in os.listdir(self.folder):
@@ -190,17 +200,27 @@ def expect_refusal(farm: Farm, partition: Partition, what: str) -> None:
 
 
 def pull_disk(farm: Farm, dice: random.Random) -> None:
-    """A partition's disk goes away over an older copy of its files, with the seals and the mark of then."""
+    """A partition's disk goes away over an older copy of its files, with the seals and the mark of then.
+
+    The copy was made while both bridges were stopped, or while one of them served. Both have to end, and so they have
+    if a person starts them again without a look.
+    """
     partition = Partition(farm, dice.randrange(1, PARTITIONS))
-    stop(farm, partition.bridges)
+    is_served = dice.random() < 0.5
+    if not is_served:
+        stop(farm, partition.bridges)
     partition.copy()
-    partition.begin()
+    if not is_served:
+        partition.begin()
     time.sleep(SERVED_SECONDS)
     away = partition.folder + AWAY
     os.rename(partition.folder, away)
     os.rename(partition.folder + KEPT, partition.folder)
-    if not partition.wait_until_down(REFUSED_SECONDS):
-        farm.faults.append(f"partition {partition.number} went on over the copy below its disk")
+    for start in range(1 + STARTS):
+        if start:
+            partition.begin()
+        if not partition.wait_until_down(REFUSED_SECONDS):
+            farm.faults.append(f"partition {partition.number} went on over the copy below its disk: start {start}")
     stop(farm, partition.bridges)
     shutil.rmtree(partition.folder)
     os.rename(away, partition.folder)
