@@ -11,6 +11,7 @@ import pika
 from issuer_host.broker import topology
 from issuer_host.replication.message_mac import MessageMacs
 from issuer_host.replication.messages import Barrier, Records
+from trials.machines.accidents import ACCIDENTS
 from trials.machines.brokers import NODE
 from trials.machines.history import Reader, last_barrier, next_record
 from trials.machines.machines import Machines
@@ -245,6 +246,7 @@ EVENTS: Mapping[str, Event] = {
     "clock": Event(2, set_clock),
     "deposed": Event(3, go_on_deposed),
     "forged": Event(3, forge_messages),
+    **{name: Event(2, does) for name, does in ACCIDENTS.items()},
 }
 
 

@@ -1,5 +1,6 @@
 """Three machines with a broker and a node each, and the partitions' journals on all of them."""
 import collections
+import contextlib
 import os
 import random
 import shutil
@@ -77,6 +78,10 @@ class Machines:
     def journal(self, partition: int) -> str:
         return self.journal_of(self.network.machines[0], partition)
 
+    def last_run_of(self, machine: Machine, partition: int) -> str:
+        """Returns the file that says which journals the last run had."""
+        return os.path.join(self.folder(machine), f"last-run-{partition}")
+
     def sockets(self, partition: int) -> list[str]:
         """Returns the sockets at which the nodes take orders for a partition."""
         return [os.path.join(self.folder(machine), f"orders-{partition}") for machine in self.network.machines]
@@ -103,6 +108,7 @@ class Machines:
                 "journal": self.journal_of(machine, partition),
                 "callers": CALLERS,
                 "orders": os.path.join(self.folder(machine), f"orders-{partition}"),
+                "last_run": self.last_run_of(machine, partition),
             }
             for partition in range(self.partitions)
         ]
@@ -241,11 +247,17 @@ class Machines:
     def replace_journals(self, machine: Machine, other: Machine) -> None:
         """Deletes all journals of a machine, and copies those of another one."""
         for partition in range(self.partitions):
-            journal = self.journal_of(machine, partition)
-            shutil.rmtree(os.path.dirname(journal))
-            os.makedirs(os.path.dirname(journal))
-            command = [NODE_COMMAND, "--copy", self.journal_of(other, partition), journal]
-            subprocess.run(command, stdout=subprocess.DEVNULL, check=True)
+            self.replace_journal(machine, other, partition)
+
+    def replace_journal(self, machine: Machine, other: Machine, partition: int) -> None:
+        """Deletes a partition's journals on a machine, and copies those of another one."""
+        journal = self.journal_of(machine, partition)
+        shutil.rmtree(os.path.dirname(journal))
+        os.makedirs(os.path.dirname(journal))
+        command = [NODE_COMMAND, "--copy", self.journal_of(other, partition), journal]
+        subprocess.run(command, stdout=subprocess.DEVNULL, check=True)
+        with contextlib.suppress(FileNotFoundError):
+            os.remove(self.last_run_of(machine, partition))
 
     def stop(self, machine: Machine) -> None:
         """All that runs on a machine stands still."""

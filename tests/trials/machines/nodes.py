@@ -35,6 +35,8 @@ class ManagedNode:
         self.ends: collections.Counter[Union[int, str]] = collections.Counter()
         self.died = 0.0
         self.log = os.path.join(folder, "node.log")
+        # The lines by which it stopped partitions over files that weren't right, as it has to.
+        self.excused: list[str] = []
         # What the node has beside this process's environment.
         self.more: dict[str, str] = {}
 
