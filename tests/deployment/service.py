@@ -31,6 +31,8 @@ OF_ALL_UNITS = "token.conf"
 # The disk of a partition, in memory.
 MOUNT = "[Mount]\nWhat=tmpfs\nWhere=/var/lib/issuer/0\nType=tmpfs\n"
 UNITS = ("issuer@.service", "issuer-standby@.service", "issuer-gateway.service", "issuer-node.service")
+# The unit with a port for strangers, and which part of the machine's memory it may be given.
+OPEN_UNIT, LEAST_MEMORY, MOST_MEMORY = "issuer-gateway.service", 25, 90
 FIGURE = re.compile(r"\bissuer_\w+")
 # Where the figures' names stand.
 FIGURE_FILES = ("figures.py", "textfile.py")
@@ -98,6 +100,37 @@ def units_restart(tally: Tally) -> None:
         found = re.search(r"^RestartPreventExitStatus=(.*)$", unit_of(name), re.MULTILINE)
         expected = [str(int(status)) for status in sorted(NOT_RESTARTED)]
         tally.expect(found and found[1].split(), expected, f"the statuses after which {name} isn't restarted")
+
+
+def units_bound_memory(tally: Tally) -> None:
+    """No unit's memory goes to a swap; the gateway, at whose port strangers are, takes a part of it at most."""
+    for name in UNITS:
+        tally.expect(re.findall("(?m)^MemorySwapMax=(.*)$", unit_of(name)), ["0"], f"the swap that {name} may take")
+    found = re.findall("(?m)^MemoryMax=(.*)$", unit_of(OPEN_UNIT))
+    percents = [int(word[:-1]) for word in found if re.fullmatch(r"\d{1,2}%", word)]
+    is_bound = len(found) == len(percents) == 1 and LEAST_MEMORY <= percents[0] <= MOST_MEMORY
+    tally.holds(is_bound, f"{OPEN_UNIT} has MemoryMax={found}: {LEAST_MEMORY}% to {MOST_MEMORY}%")
+
+
+def scraping_is_right(tally: Tally) -> None:
+    """Prometheus takes the page's example of what is scraped, and it has each job and label that the rules name."""
+    section = content_of(os.path.join(DEPLOY, "README.md")).partition("\n## Figures\n")[2].partition("\n## ")[0]
+    lines = re.findall(r"(?m)^ {6}(.*)$", section.partition("scrape_configs:")[2].partition("\n\n")[0])
+    text = "\n".join(("scrape_configs:", *lines, ""))
+    rules = content_of(os.path.join(DEPLOY, "alerts.yml"))
+    jobs, named = (
+        set(re.findall(pattern, one)) for pattern, one in ((r"job_name: (\w+)", text), (r'job="(\w+)"', rules))
+    )
+    tally.expect((named - jobs, bool(named)), (set(), True), "the jobs that rules name, and the page doesn't scrape")
+    tally.holds("labels: {partition: " in text, "the targets have the label partition")
+    if not shutil.which("promtool"):
+        print("left out: the example of what is scraped, for want of promtool")
+        return
+    with tempfile.TemporaryDirectory() as folder:
+        for more, is_taken in (("", True), ("nonsense: 1\n", False)):
+            write_text(folder, "prometheus.yml", text + more)
+            ran = run_tool(tally, "promtool", "check", "config", os.path.join(folder, "prometheus.yml"))
+            tally.expect(ran.returncode == 0, is_taken, f"whether it is taken with {more!r}: {ran.stderr!r}")
 
 
 def unit_is_right(name: str, tally: Tally) -> None:
@@ -235,6 +268,8 @@ CHECKS = [
         )
         for name in DROP_INS
     ),
+    check_of(units_bound_memory),
+    check_of(scraping_is_right),
     check_of(alert_rules_are_right)._replace(may_be_empty=True),
     check_of(each_alert_is_raised),
     check_of(alerts_have_the_programs_numbers),
