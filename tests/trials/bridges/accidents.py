@@ -70,9 +70,10 @@ def named_pipe(path: str) -> None:
 
 
 def copy_folder(folder: str, to: str) -> None:
-    """Copies a folder's files, which may be written meanwhile: position and seals before the journals."""
+    """Copies a folder's regular files, which may be written meanwhile: position and seals before the journals."""
     os.mkdir(to)
-    for name in sorted(os.listdir(folder), key=lambda name: (not name.endswith(POSITION), not name.endswith(SEALS))):
+    names = filter(lambda name: os.path.isfile(os.path.join(folder, name)), os.listdir(folder))
+    for name in sorted(names, key=lambda name: (not name.endswith(POSITION), not name.endswith(SEALS))):
         with contextlib.suppress(FileNotFoundError):
             shutil.copy2(os.path.join(folder, name), os.path.join(to, name))
 
@@ -160,8 +161,8 @@ def stopped(farm: Farm, dice: random.Random) -> Iterator[Partition]:
     """A partition's bridges are stopped, and started again at the end."""
     partition = Partition(farm, dice.randrange(PARTITIONS))
     stop(farm, partition.bridges)
-    partition.copy()
     try:
+        partition.copy()
         yield partition
     finally:
         partition.begin()
@@ -239,8 +240,8 @@ def damage_beside(farm: Farm, dice: random.Random) -> None:
     is_down = partition.is_refused()
     if farm.is_loud:
         print(f"{os.path.basename(path)} of partition {partition.number}: {kind}; refused: {is_down}", flush=True)
-    if is_down or path.endswith(WORK):
-        # (where notes of work can't be read orders are refused, and nothing is written there)
+    if is_down or path.endswith(WORK) or kind == named_pipe.__name__:
+        # (where notes of work can't be read orders are refused; the log says of a pipe that it has to be moved away)
         stop(farm, partition.bridges)
         partition.put_file_back(path)
         partition.begin()

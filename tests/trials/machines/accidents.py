@@ -12,7 +12,19 @@ import time
 from collections.abc import Callable, Iterator
 
 from issuer_host.facts.journals import POSITION, journal_path
-from trials.bridges.accidents import AUDIT, AWAY, DAMAGES, KEPT, MARK, SEALS, STARTS, WORK, copy_folder, older
+from trials.bridges.accidents import (
+    AUDIT,
+    AWAY,
+    DAMAGES,
+    KEPT,
+    MARK,
+    SEALS,
+    STARTS,
+    WORK,
+    copy_folder,
+    named_pipe,
+    older,
+)
 from trials.bridges.farm import SHARDS
 from trials.machines.brokers import comes
 from trials.machines.machines import Machines, SERVING, WAITING, state_of
@@ -166,6 +178,11 @@ def damage_beside(machines: Machines, dice: random.Random) -> None:
     if accident.is_stopped():
         accident.excuse()
         accident.copy_of_another()
+    elif kind == named_pipe.__name__:
+        # (the log says that it has to be moved away)
+        accident.end()
+        os.remove(path)
+        accident.start()
 
 
 def pull_disk(machines: Machines, dice: random.Random) -> None:
