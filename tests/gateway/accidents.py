@@ -9,7 +9,7 @@ from collections.abc import Callable
 
 from gateway.gateways import Gateway, Issuer
 from issuer_host.facts.journals import journal_path
-from trials.bridges.accidents import AUDIT, DAMAGES, MARK, SEALS, STARTS, WORK, copy_folder, older, program_of
+from trials.bridges.accidents import AUDIT, DAMAGES, MARK, SEALS, STARTS, WORK, copy_folder, grows, older, program_of
 
 LOOK_SECONDS, SERVED_SECONDS, REFUSED_SECONDS = 0.1, 1.0, 40.0
 FULL_SECONDS, FULL_BYTES = 1.5, 100
@@ -71,7 +71,8 @@ class Accidents:
         copy_folder(folder, f"{folder}.older")
         if not is_running:
             self.gateway.start()
-        time.sleep(SERVED_SECONDS)
+        if not grows(folder, f"{folder}.older"):
+            self.faults.append(f"nothing was recorded in {folder} before its disk went away")
         before = self.gateway.said.count(REPLACED)
         size = os.path.getsize(f"{folder}.older/journal{AUDIT}")
         os.rename(folder, f"{folder}.away")

@@ -19,8 +19,6 @@ from trials.bridges.managed import ManagedBridge, TERMINATE
 REFUSED_SECONDS = 60.0
 LOOK_SECONDS, WATCHED_SECONDS = 0.1, 4.0
 KEPT, AWAY = ".kept", ".away"
-# So long a partition records before its disk goes away.
-SERVED_SECONDS = 2.0
 # So often a person starts what was refused without a look at its files.
 STARTS = 2
 SEALS, MARK, WORK, AUDIT = ".seals", ".run", ".work", ".audit"
@@ -76,6 +74,19 @@ def copy_folder(folder: str, to: str) -> None:
     for name in sorted(names, key=lambda name: (not name.endswith(POSITION), not name.endswith(SEALS))):
         with contextlib.suppress(FileNotFoundError):
             shutil.copy2(os.path.join(folder, name), os.path.join(to, name))
+
+
+def grows(folder: str, copy: str) -> bool:
+    """Waits until a journal of a folder has more than its copy. Only then would the copy forget something."""
+    names = [name for name in os.listdir(copy) if name.endswith(".v2")]
+    until = time.monotonic() + REFUSED_SECONDS
+    while time.monotonic() < until:
+        if any(
+            os.path.getsize(os.path.join(folder, name)) > os.path.getsize(os.path.join(copy, name)) for name in names
+        ):
+            return True
+        time.sleep(LOOK_SECONDS)
+    return False
 
 
 class Partition:
@@ -213,7 +224,9 @@ def pull_disk(farm: Farm, dice: random.Random) -> None:
     partition.copy()
     if not is_served:
         partition.begin()
-    time.sleep(SERVED_SECONDS)
+    if not grows(partition.folder, partition.folder + KEPT):
+        farm.faults.append(f"partition {partition.number} recorded nothing before its disk went away")
+        return
     away = partition.folder + AWAY
     os.rename(partition.folder, away)
     os.rename(partition.folder + KEPT, partition.folder)

@@ -22,6 +22,7 @@ from trials.bridges.accidents import (
     STARTS,
     WORK,
     copy_folder,
+    grows,
     named_pipe,
     older,
 )
@@ -192,7 +193,9 @@ def pull_disk(machines: Machines, dice: random.Random) -> None:
     """
     accident = Accident(machines, dice)
     accident.copy()
-    time.sleep(SERVED_SECONDS)
+    if not grows(accident.folder, accident.folder + KEPT):
+        machines.faults.append(f"{accident} took nothing before its disk went away")
+        return
     is_killed = dice.random() < 0.5
     accident.watch()
     if is_killed:
