@@ -6,7 +6,6 @@ of memory, of processes or of descriptors passes, and so does most of what nobod
 import importlib
 import re
 import sys
-import traceback
 from collections.abc import Sequence
 
 # Status.PASSES, which is said again here: the module that has it may be what can't be imported.
@@ -28,6 +27,8 @@ def run(module: str, words: Sequence[str]) -> int:
         status: int = importlib.import_module(module).main(words)
         return status
     except Exception:
+        import traceback
+
         sys.stderr.write(without_cards(traceback.format_exc()))
         return PASSES
 

@@ -14,7 +14,8 @@ from issuer_host.launcher.hints import hint, new_journal
 from issuer_host.launcher.messages import stop, tell
 from issuer_host.launcher.pin_words import NoPin, filled
 from issuer_host.launcher.program_run import open_descriptors
-from issuer_host.launcher.proved_program import run_proved, why_unproved
+from issuer_host.launcher.proved_program import why_unproved
+from issuer_host.launcher.proved_run import run_proved
 from issuer_host.launcher.sources import TOP
 from issuer_host.launcher.toolchain import kit_of, toolchain
 from issuer_host.launcher.usage import usage

@@ -1,29 +1,18 @@
-"""Whether the built programs are the proved ones of the sources at hand, and runs of the host."""
+"""Whether the built programs are the proved ones of the sources at hand."""
 import contextlib
 import hashlib
 import json
 import os
-import sys
-from collections.abc import Sequence
 from typing import Any, Optional
 
-from issuer_host.facts.commands import CLEARING, CONFIG, JOURNAL, OVER_JOURNALS, value_of
 from issuer_host.facts.paths import BUILD, HOME, HOST, PROGRAM, PROGRAMS, RECORD
 from issuer_host.facts.proof import read_record
 from issuer_host.files.placement import put_in_place
-from issuer_host.files.run_mark import lock_mark
-from issuer_host.launcher.causes import explained
-from issuer_host.launcher.clearing_progress import Judged
-from issuer_host.launcher.program_run import run_program
 from issuer_host.launcher.sources import PROOF_PARTS, crates_below, files_of, sources_of, sum_or_word
 from issuer_host.launcher.toolchain import kit_of, toolchain
-from issuer_host.start.held_configuration import may_have_wrapped_keys
 
 # The files' times and sizes at the last comparison of their sums with the record's.
 STAMPS = os.path.join(BUILD, "issuer.stamps")
-# What becomes a program over wrapped keys: it needs Debian's library for tokens, which another Python doesn't have.
-KEYED_PROGRAM = os.path.join(HOME, "issuer_host/start/keyed_program.py")
-SYSTEM_PYTHON = "/usr/bin/python3"
 NO_PROGRAM = "no proved program is built"
 NOT_THE_PROVED = "the program {} in .build isn't the one that was proved"
 
@@ -103,29 +92,3 @@ def why_changed(record: dict[str, Any], folder: str = BUILD) -> Optional[str]:
     if kit and kit != record.get("kit"):
         return f"the toolchain is {kit}, and the program was proved with {record.get('kit')}"
     return None
-
-
-def run_proved(words: Sequence[str]) -> int:
-    """Runs the proved program, and says beside its journals that a run may append."""
-    mark = lock_mark(value_of(JOURNAL, words), creates=False) if words[0] in OVER_JOURNALS else None
-    if mark is not None:
-        mark.may_append()
-    return run_watched(words)
-
-
-def command_of(words: Sequence[str]) -> list[str]:
-    """Returns the command of a run: the program, or what becomes it once a token has unwrapped the keys."""
-    if may_have_wrapped_keys(value_of(CONFIG, words)):
-        return [SYSTEM_PYTHON, "-I", KEYED_PROGRAM, PROGRAM, *words]
-    return [PROGRAM, *words]
-
-
-def run_watched(words: Sequence[str]) -> int:
-    """Runs the proved program. On a terminal it tells how far `clear` has come."""
-    command = command_of(words)
-    if words[0] != "clear" or not sys.stderr or not sys.stderr.isatty():
-        return explained(words, *run_program(command))
-    judged = Judged(value_of(CLEARING, words))
-    ended = run_program(command, judged)
-    judged.ended()
-    return explained(words, *ended)

@@ -4,13 +4,17 @@ from collections.abc import Sequence
 from typing import Optional
 
 from issuer_host.facts.paths import HOME
-from issuer_host.launcher.proved_program import why_unproved
 from issuer_host.start import careful_start
 
 
 def why_changed() -> Optional[str]:
     """Returns what changed since the program was proved; None if nothing did, and in a copy without sources."""
-    return why_unproved() if os.path.exists(f"{HOME}/crates.txt") else None
+    if not os.path.exists(f"{HOME}/crates.txt"):
+        return None
+    # (a start is a time without answers: a copy without sources, or another program, needs none of this)
+    from issuer_host.launcher.proved_program import why_unproved
+
+    return why_unproved()
 
 
 def main(words: Sequence[str]) -> int:

@@ -2,11 +2,14 @@
 
 `stand_ins/rt` stands in for the toolchain, and `stand_ins/program` for the program: nothing is proved or built.
 """
+import atexit
+import functools
 import os
 import shutil
 import subprocess
 import sys
 import tempfile
+import threading
 from collections.abc import Mapping
 from typing import NamedTuple, Optional
 
@@ -28,6 +31,8 @@ ASKED = ("['version']", "['help']")
 # In the environment these would change what is tried.
 NOT_PASSED_ON = ("ISSUER_NEVER_BUILD", "RT_JOBS", "KIT", "TRY", "CI", "TEST")
 SECONDS = 300
+# (checks run side by side)
+COMPILING = threading.Lock()
 
 
 class Ran(NamedTuple):
@@ -47,9 +52,22 @@ def copy_file(path: str, to: str) -> None:
     subprocess.run(["cp", path, to], check=True)
 
 
+@functools.cache
+def compiled_package() -> str:
+    """A copy of the package with its modules compiled: some hundred calls of the launcher needn't do that again."""
+    folder = tempfile.mkdtemp(prefix="launcher-package-")
+    atexit.register(shutil.rmtree, folder, ignore_errors=True)
+    package = f"{folder}/issuer_host"
+    shutil.copytree(f"{HOME}/issuer_host", package, ignore=shutil.ignore_patterns("__pycache__"))
+    subprocess.run([sys.executable, "-m", "compileall", "-q", package], check=True)
+    return package
+
+
 def copy_launcher(to: str) -> None:
     copy_file(f"{HOME}/issuer", f"{to}/issuer")
-    shutil.copytree(f"{HOME}/issuer_host", f"{to}/issuer_host", ignore=shutil.ignore_patterns("__pycache__"))
+    with COMPILING:
+        package = compiled_package()
+    shutil.copytree(package, f"{to}/issuer_host")
     shutil.copyfile(f"{HOME}/VERSION", f"{to}/VERSION")
 
 
