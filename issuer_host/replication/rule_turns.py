@@ -5,7 +5,7 @@ many records of each journal the rule knows, and which answers wait.
 """
 import collections
 import uuid
-from collections.abc import Iterator
+from collections.abc import Callable, Iterator
 from typing import Optional, Protocol
 
 from issuer_host.host.event_loop import Action as Callback
@@ -77,11 +77,23 @@ class RuleOutside(Protocol):
         """Kills the host, and reads the journals to their ends. Its requests go back to the queue."""
 
 
+def new_name() -> str:
+    """Returns a name that nothing had before."""
+    return uuid.uuid4().hex
+
+
 class RuleTurns:
     """A partition's rule, asked."""
 
-    def __init__(self, rule: PartitionRule, beginning: Beginning, journals: RuleJournals, outside: RuleOutside) -> None:
-        self.rule, self.journals, self.outside = rule, journals, outside
+    def __init__(
+        self,
+        rule: PartitionRule,
+        beginning: Beginning,
+        journals: RuleJournals,
+        outside: RuleOutside,
+        names: Callable[[], str] = new_name,
+    ) -> None:
+        self.rule, self.journals, self.outside, self.names = rule, journals, outside, names
         self.state = State.AWAY
         # The last barrier that counts.
         self.barrier = beginning.barrier
@@ -103,7 +115,7 @@ class RuleTurns:
 
     def connected(self) -> None:
         self.state = State.READING
-        self.tell(Connected(new_name()))
+        self.tell(Connected(self.names()))
 
     def disconnected(self) -> None:
         """The connection is lost. What was read stays counted, and is read on from there."""
@@ -114,7 +126,7 @@ class RuleTurns:
         """The queue delivers here from now on."""
         if self.state is State.WAITING:
             self.state = State.BEGINNING
-            self.tell(Called(new_name()))
+            self.tell(Called(self.names()))
 
     def read(self, text: str) -> None:
         """Takes the stream's next message that a node wrote."""
@@ -222,11 +234,6 @@ class RuleTurns:
             self.waiting.clear()
             self.outside.end_host()
             self.events.extendleft(reversed([*self.news(), Told()]))
-
-
-def new_name() -> str:
-    """Returns a name that nothing had before."""
-    return uuid.uuid4().hex
 
 
 def fault_of(why: str) -> Exception:

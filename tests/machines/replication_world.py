@@ -6,39 +6,16 @@ and begins again from its journals and a place in the stream that it kept some t
 stream and has no key of the cluster, writes to it.
 """
 import collections
+import functools
 from collections.abc import Callable, Hashable, Iterator
-from typing import NamedTuple, Optional, Protocol, Union
+from typing import NamedTuple, Optional, Protocol
 
 from issuer_host.replication.bridge_rule import BridgeRule
 from issuer_host.replication.message_mac import MessageMacs
-from issuer_host.replication.messages import Barrier, Message, MessageFault, Record, Records, parse, text_of
-from issuer_host.replication.rule import Answer, Count, Diverged
-from issuer_host.replication.rule_events import (
-    Action,
-    Again,
-    Answered,
-    Begin,
-    Beginning,
-    Called,
-    Connected,
-    TruncateJournal,
-    MessageRead,
-    End,
-    HostEnded,
-    Event,
-    Has,
-    HostLoaded,
-    Lost,
-    Publish,
-    AppendRecord,
-    BarrierCounts,
-    Ready,
-    RecordsCount,
-    Reply,
-    PartitionRule,
-    Stop,
-    Told,
-)
+from issuer_host.replication.messages import Barrier, LOGS, Message, MessageFault, Record, Records, parse, text_of
+from issuer_host.replication.rule import Answer, Count
+from issuer_host.replication.rule_events import Beginning, PartitionRule
+from issuer_host.replication.rule_turns import RuleTurns
 
 COUNTERS = ("7", "8", "9")
 KEY = bytes(range(32))
@@ -96,9 +73,10 @@ class Kept(NamedTuple):
 class Node:
     """A machine: its journals, its rule, and what the rule had written that the broker hasn't taken.
 
-    It does what `deploy/node` does around a rule: it tells events, and carries out what the rule says.
+    `RuleTurns` is that of `deploy/node`. This is what it stands on: journals in memory, and a host that loads at once.
     """
 
+    turns: RuleTurns
     rule: "WorldRule"
 
     def __init__(self, world: "World", number: int) -> None:
@@ -109,84 +87,53 @@ class Node:
         self.position = 0
         # What counts up to there, by the rule in words.
         self.count = Count()
-        # And what the rule has said of it.
-        self.said = Count()
+        # And how many records of each shard do, by what the rule has said.
+        self.said = [0] * LOGS
         self.kept = Kept(0, self.count.barrier, tuple(self.count.records))
         self.names = 0
         self.is_in_line = self.has_host = self.is_serving = False
-        # How many records of each journal the rule knows.
-        self.known = [0] * world.shards
-        # By its number an answer that waits: the card's counter, and what it says.
-        self.waiting: dict[int, Answer] = {}
-        self.answers = 0
         self.begin_again()
 
-    # The rule
+    def begin_again(self) -> None:
+        """The machine is killed, and begins from its journals and the place that it kept."""
+        self.has_host = self.is_in_line = self.is_serving = False
+        self.position = self.kept.position
+        self.count = Count(self.kept.barrier, self.kept.records)
+        self.said = list(self.kept.records)
+        beginning = Beginning(f"m{self.number}", self.kept.barrier, self.kept.records)
+        self.rule = self.world.new_rule(beginning)
+        self.turns = self.world.turns(self.rule, beginning, self, self, self.new_name)
+        self.turns.begin()
+        self.turns.connected()
 
-    def tell(self, event: Event) -> None:
-        """Tells an event, carries out what the rule says, and tells what comes of that."""
-        events = collections.deque([event])
-        while events:
-            for action in self.rule.take(events.popleft()):
-                events.extend(self.carry_out(action))
+    # What the rule has done outside
 
-    def carry_out(self, action: Action) -> list[Event]:
-        """Does what the rule says. Returns what it is told then."""
-        if isinstance(action, AppendRecord):
-            self.put(action.record)
-        elif isinstance(action, TruncateJournal):
-            self.truncate(action.shard, action.length)
-        elif isinstance(action, Publish):
-            self.written.append(self.world.signed(parse(action.text)))
-        elif isinstance(action, Reply):
-            self.reply(action.number)
-        elif isinstance(action, Stop):
-            raise Diverged(action.why)
-        elif isinstance(action, (BarrierCounts, RecordsCount)):
-            self.hear_counts(action)
-        elif isinstance(action, Ready):
-            self.is_in_line, self.is_serving = True, False
-        elif isinstance(action, Begin):
-            return self.begin_host()
-        elif isinstance(action, End):
-            return self.end_host()
-        return []
+    def publish(self, text: str) -> None:
+        self.written.append(self.world.signed(parse(text)))
 
-    def hear_counts(self, action: Union[BarrierCounts, RecordsCount]) -> None:
-        """The rule says what counts: as the rule in words has it, and each change once."""
-        if isinstance(action, BarrierCounts):
-            is_right = self.said.barrier != action.barrier == self.count.barrier
-            self.said.barrier = action.barrier
-        else:
-            is_right = self.said.records[action.shard] < action.number == self.count.records[action.shard]
-            self.said.records[action.shard] = action.number
-        has_all = all(count <= len(records) for count, records in zip(self.said.records, self.held))
-        if not is_right or not has_all:
-            raise Broken(f"the rule says {action}, where {self.count.barrier} and {self.count.records} count")
+    def ready(self) -> None:
+        self.is_in_line, self.is_serving = True, False
 
-    def reply(self, number: int) -> None:
-        if number not in self.waiting:
-            raise Broken(f"answer {number} is sent, of a host that is gone")
-        self.world.replied(self.waiting.pop(number))
-
-    def begin_host(self) -> list[Event]:
-        """Starts the host, which loads the journals at once. The rule knows just what counts, and is told the rest."""
+    def begin_host(self) -> None:
+        """Starts the host, which loads the journals at once."""
         self.has_host = self.is_serving = True
-        self.known = self.count.records[: self.world.shards]
-        return [*self.news(), HostLoaded()]
+        self.turns.host_loaded()
 
-    def end_host(self) -> list[Event]:
+    def end_host(self) -> None:
         self.has_host = self.is_serving = False
-        self.waiting.clear()
-        return [*self.news(), Told()]
 
-    def news(self) -> list[Event]:
-        """What the journals have beyond what the rule knows."""
-        found = [record for records, known in zip(self.held, self.known) for record in records[known:]]
-        self.known = list(map(len, self.held))
-        return [Has(record) for record in found]
+    def reply(self, answer: Answer) -> None:
+        if not self.has_host:
+            raise Broken(f"answer {answer} is sent, of a host that is gone")
+        self.world.replied(answer)
 
     # Its journals
+
+    def length(self, shard: int) -> int:
+        return len(self.held[shard]) if shard < self.world.shards else 0
+
+    def record(self, shard: int, place: int) -> Record:
+        return self.held[shard][place]
 
     def put(self, record: Record) -> None:
         if self.has_host:
@@ -196,13 +143,18 @@ class Node:
         if any(other.text.split(":")[0] == record.text.split(":")[0] for other in self.held[record.shard]):
             raise Broken(f"a second record for one counter is put: {record}")
         self.held[record.shard].append(record)
-        self.known[record.shard] += 1
 
     def truncate(self, shard: int, length: int) -> None:
         if self.has_host:
             raise Broken("journals are truncated that a host has open")
         del self.held[shard][length:]
-        self.known[shard] = length
+
+    def count_to(self, shard: int, number: int) -> None:
+        """The rule says what counts: as the rule in words has it, each change once, and what the journal has."""
+        is_right = self.said[shard] < number == self.count.records[shard]
+        self.said[shard] = number
+        if not is_right or number > len(self.held[shard]):
+            raise Broken(f"the rule says that {number} count of shard {shard}, where {self.count.records} do")
 
     # What happens to it
 
@@ -212,9 +164,10 @@ class Node:
         self.position += 1
         if message is not None:
             self.count.take(message)
-            self.tell(MessageRead(text_of(message)))
-            if (self.said.barrier, self.said.records) != (self.count.barrier, self.count.records):
-                raise Broken(f"the rule doesn't say that {self.count.barrier} and {self.count.records} count")
+            self.turns.read(text_of(message))
+            said = self.turns.barrier, self.said
+            if said != (self.count.barrier, self.count.records):
+                raise Broken(f"the rule says that {said} count, where {self.count.barrier}, {self.count.records} do")
 
     def keep(self) -> None:
         self.kept = Kept(self.position, self.count.barrier, tuple(self.count.records))
@@ -225,24 +178,15 @@ class Node:
 
     def call(self) -> None:
         self.is_in_line = False
-        self.tell(Called(self.new_name()))
+        self.turns.called()
 
     def ask(self, counter: str) -> None:
         """Puts a request of a card's counter to the host: it has one record for it, whoever asks."""
         record = self.find(counter) or self.decide(counter)
-        self.tell_news()
         self.answer(Answer(counter, record.text, record.at))
 
-    def tell_news(self) -> None:
-        """Tells what the host has recorded, if there is something."""
-        news = self.news()
-        for event in (*news, Told()) if news else ():
-            self.tell(event)
-
     def answer(self, answer: Answer) -> None:
-        self.answers += 1
-        self.waiting[self.answers] = answer
-        self.tell(Answered(self.answers, answer.place))
+        self.turns.recorded((functools.partial(self.reply, answer), answer.place))
 
     def find(self, counter: str) -> Optional[Record]:
         of_counter = (record for records in self.held for record in records if record.text.startswith(f"{counter}:"))
@@ -258,32 +202,27 @@ class Node:
         """The host records its decision of a request, dies before it answers, and another begins."""
         if self.find(counter) is None:
             self.decide(counter)
-        self.waiting.clear()
-        self.tell(HostEnded())
-        for event in (*self.news(), HostLoaded()):
-            self.tell(event)
+        self.turns.host_ended()
+        self.turns.host_loaded()
 
     def ask_of_none(self) -> None:
         """Puts a request whose answer names no record, and says all the same what the host has."""
         told = " ".join(record.text for records in self.held for record in records)
         self.answer(Answer("", told))
 
-    def begin_again(self) -> None:
-        """The machine is killed, and begins from its journals and the place that it kept."""
-        self.has_host = self.is_in_line = self.is_serving = False
-        self.waiting.clear()
-        self.position = self.kept.position
-        self.count = Count(self.kept.barrier, self.kept.records)
-        self.said = Count(self.kept.barrier, self.kept.records)
-        self.rule = self.world.new_rule(Beginning(f"m{self.number}", self.kept.barrier, self.kept.records))
-        self.known = list(self.kept.records[: self.world.shards])
-        for event in (*self.news(), Told(), Connected(self.new_name())):
-            self.tell(event)
-
     def lose_connection(self) -> None:
         self.is_in_line = False
-        self.tell(Lost())
-        self.tell(Connected(self.new_name()))
+        self.turns.disconnected()
+        self.turns.connected()
+
+    def state(self) -> Hashable:
+        """Returns all that a later step depends on."""
+        replies = self.turns.waiting.items()
+        answers = tuple((number, getattr(reply, "args")) for number, reply in replies)
+        journals = tuple(tuple(records) for records in self.held)
+        here = self.position, self.kept, self.is_in_line, self.has_host
+        told = self.turns.state, self.turns.barrier, tuple(self.turns.known), answers, self.rule.state()
+        return (journals, tuple(self.written), *here, *told)
 
 
 class World:
@@ -295,8 +234,9 @@ class World:
         machines: int = 2,
         shards: int = 1,
         macs: Opener = MessageMacs(STREAM, [KEY]),
+        turns: type[RuleTurns] = RuleTurns,
     ) -> None:
-        self.new_rule = new_rule
+        self.new_rule, self.turns = new_rule, turns
         self.shards = shards
         self.macs = macs
         self.stream: list[Body] = []
@@ -394,7 +334,7 @@ class World:
             "ask_of_none": node.ask_of_none,
             "crash": lambda: node.crash(step.counter or COUNTERS[0]),
             "keep": node.keep,
-            "write_again": lambda: node.tell(Again()),
+            "write_again": node.turns.write_again,
             "kill": node.begin_again,
             "disconnect": node.lose_connection,
             "forge": lambda: self.forge(step.counter),
