@@ -1,7 +1,7 @@
 """Kills, cuts and stops machines while requests are answered, and holds answers, streams and journals together.
 
 usage: deploy/chaos --machines [--short] [--requests N] [--seed S] [--tick SECONDS] [--events NAME,..]
-                               [--program PATH] [--keep FOLDER] [--loud]
+                               [--program PATH] [--rule PATH] [--keep FOLDER] [--loud]
 
 It makes three machines as namespaces of the network, with a node of a RabbitMQ cluster and a node of eight partitions
 on each, and asks N requests (20,000; in the short form 1,000). About a tenth are asked again, a hundredth again with
@@ -22,7 +22,8 @@ to a machine that serves a partition:
 
 Where a node stops a partition over its files, they are put right as OPERATIONS says: by copies of another's journals.
 
---events has these happen alone, in their order: `events.py` has their names.
+--events has these happen alone, in their order: `events.py` has their names. With --rule a program decides by the rule,
+in place of the nodes' own processes.
 
 At the end:
 
@@ -86,6 +87,8 @@ class Options(NamedTuple):
     tick: int
     events: list[str]
     program: Optional[str]
+    # A program that decides by the rule in the nodes' place; none if it is empty.
+    rule: str
     keep: Optional[str]
     loud: bool
 
@@ -114,6 +117,7 @@ def options_of(words: Sequence[str]) -> Options:
     parser.add_argument("--tick", type=int, default=TICK_SECONDS)
     parser.add_argument("--events", type=lambda names: names.split(","), default=[])
     parser.add_argument("--program", type=lambda path: os.path.abspath(path))
+    parser.add_argument("--rule", default="", type=lambda path: path and os.path.abspath(path))
     parser.add_argument("--keep")
     parser.add_argument("--loud", action="store_true")
     options = Options(**vars(parser.parse_args(words)))
@@ -274,6 +278,7 @@ def run(options: Options, tally: Tally) -> None:
     with tempfile.TemporaryDirectory(prefix="issuer-machines-") as room:
         make_configurations(room, options.program, PARTITIONS)
         machines = Machines(room, options.program, cluster_tick=options.tick)
+        machines.rule = options.rule
         machines.is_loud = options.loud
         machines.are_watched = True
         try:

@@ -48,6 +48,8 @@ class Machines:
         self.is_guest = cluster is not None
         self.program = program
         self.partitions = partitions
+        # A program that decides by the rule in the nodes' place; none if it is empty.
+        self.rule = ""
         self.configurations = os.path.join(room, "configurations")
         self.is_loud = False
         # Whether deploy/rejoin runs beside each broker.
@@ -119,7 +121,8 @@ class Machines:
             "partitions": partitions,
             "figures": 0,
         }
-        return found | ({"program": self.program} if self.program else {})
+        programs = {"program": self.program, "rule": self.rule}
+        return found | {member: path for member, path in programs.items() if path}
 
     # Their beginning and their end
 
