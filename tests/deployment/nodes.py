@@ -8,7 +8,8 @@ import os
 import stat
 import unittest.mock
 from collections.abc import Callable, Iterator, Sequence
-from typing import Any, NamedTuple
+from types import SimpleNamespace
+from typing import Any, NamedTuple, Optional
 
 from checks import Tally, check_of
 from deployment.running import Host, is_refused, new_host, run
@@ -23,6 +24,7 @@ from issuer_host.replication import cluster_keys, positions
 from issuer_host.replication.journal_files import JournalFiles, MOST_BEYOND
 from issuer_host.replication.messages import Barrier, LOGS, NOTES, Record
 from issuer_host.replication.notes import Notes, as_note, read_notes, work_of, write_notes
+from issuer_host.replication.position_keeper import PositionKeeper
 from issuer_host.replication.record_origins import FedLines, NOWHERE, Origin, RefusedRecord
 from issuer_host.replication.standby_run import StandbyRun, TransientFault
 from runs import PANS, SHARDS, write_bytes, write_text
@@ -332,6 +334,42 @@ def begins_with_what_a_rule_has_room_for(tally: Tally) -> None:
         tally.expect(host.start().returncode, Status.OK, "the status of a start afterwards")
 
 
+class AtOnce:
+    """Writes positions at once, as `positions.Keeper` does in its thread."""
+
+    def add(self, task: Callable[[], None], then: Callable[[Optional[OSError]], object]) -> None:
+        task()
+        then(None)
+
+
+def writes_a_position_once_journals_have_what_counts(tally: Tally) -> None:
+    """A position waits while a run of standby hasn't appended what counts there, and is written once that is synced."""
+    with new_host(tally) as host:
+        lines = records(host.begun(), 5)
+        before, after = position_of(host, 2, lines), position_of(host, 5, lines, 9)
+        positions.write(host.name, before)
+        journals = files_of(host).journals
+        user: Any = SimpleNamespace(position=lambda: after, position_failed=tally.fail)
+        writer: Any = AtOnce()
+        keeper = PositionKeeper(writer, host.name, journals, before, user)
+        whole = os.path.getsize(host.journal(0))
+        os.truncate(host.journal(0), whole - len(lines[4]) - 1)
+        with unittest.mock.patch.object(StandbyRun, "is_running", True):
+            keeper.look()
+        tally.expect(positions.read(host.name), before, "the position while a record is missing")
+        with open(host.journal(0), "a", encoding="ascii") as journal:
+            journal.write(f"{lines[4]}\n")
+        synced: "list[tuple[str, positions.Position]]" = []
+
+        def sync(file: int) -> None:
+            synced.append((os.readlink(f"/proc/self/fd/{file}"), positions.read(host.name)))
+
+        with unittest.mock.patch.object(os, "fdatasync", sync):
+            keeper.look()
+        tally.expect(synced, [(os.path.realpath(host.journal(0)), before)], "what is synced before the position")
+        tally.expect((positions.read(host.name), keeper.kept), (after, after), "the position then")
+
+
 def refuses_a_record_that_is_none(tally: Tally) -> None:
     """A record that counts and that the program doesn't take needs a person, and so does one of no shard."""
     with new_host(tally) as host:
@@ -522,6 +560,7 @@ CHECKS = [
         only_a_node_appends_to_replicated_journals,
         truncates_what_does_not_count,
         begins_with_what_a_rule_has_room_for,
+        writes_a_position_once_journals_have_what_counts,
         refuses_a_record_that_is_none,
         ends_a_run_of_standby_that_hangs,
         knows_the_message_of_a_line,
