@@ -3,7 +3,7 @@
 The file `NAME.run` is locked by a run for as long as it lives: a careful start hands the lock over to the program. It
 has a line for each journal: the shard, the bytes of the journal's whole lines, and how many seals it has. While a run
 may append, each line ends with `+`: journal and seals had so much when the run began, and have no less since. A first
-line has the name of the last run that could append. A file outside the folder may name it too (`last_run`).
+line has the name of the last run. A file outside the folder may name it too (`last_run`).
 """
 import fcntl
 import os
@@ -71,8 +71,8 @@ class RunMark:
         """From now on a run of this name may append. The journals were checked, and all their records are sealed."""
         self.write({shard: left._replace(may_have_grown=True) for shard, left in self.left_now().items()}, run)
 
-    def was_checked(self, run: str = "") -> None:
-        """The journals were checked, and no run appends to them until the next one begins."""
+    def was_checked(self, run: str) -> None:
+        """The journals were checked by a run of this name, and none appends to them until the next one begins."""
         self.write(self.left_now(), run)
 
     def has_ended(self, sealed: Optional[Mapping[int, Left]] = None) -> None:

@@ -43,9 +43,9 @@ def check_history(command: str, name: str, shards: int, accepts: bool, last: str
         check_journal(path, paths[path], accepts)
 
     do_all(list(paths), check, processes_for(list(paths)))
-    run = last_run.write(last, name, shards) if last else ""
+    run = last_run.write(last, name, shards) if last else new_run()
     if command in APPENDING or any(bytes_of(old_journal_path(name, shard)) for shard in range(shards)):
-        mark.has_begun(run or new_run())
+        mark.has_begun(run)
     else:
         mark.was_checked(run)
     mark.hand_over()
