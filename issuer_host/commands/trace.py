@@ -24,30 +24,15 @@ from typing import Any, NamedTuple
 
 from issuer_host.commands import trace_record
 from issuer_host.commands.message_lines import Wanted, found_in
-from issuer_host.facts.answers import DECISIONS, RefusalNumber
+from issuer_host.facts.answers import DECISIONS, kind_of
 from issuer_host.facts.approval_codes import decision_of_code
 from issuer_host.facts.masks import masked
 from issuer_host.facts.refusal import Refusal, tell
+from issuer_host.facts.refusal_reasons import reason_of
 from issuer_host.facts.statuses import Status
 
 NAME = "trace"
 NOT_FOUND = 1
-# What a refusal means, by its number; the host may name a tag, or another number, after it.
-REASONS = {
-    RefusalNumber.BAD_LINE: "the line has none of the forms, from this column on",
-    RefusalNumber.BAD_TLV: "the chip data are torn at this offset",
-    RefusalNumber.MISSING: "this tag is missing",
-    RefusalNumber.BAD_FIELD: "this tag has a wrong length or wrong digits; of 9f10: it isn't of this host's profile",
-    RefusalNumber.REPEATED: "this tag occurs twice",
-    RefusalNumber.UNKNOWN_CARD: "no card has this PAN and sequence number",
-    RefusalNumber.NOT_ARQC: "it is no online request",
-    RefusalNumber.UNKNOWN_KEY: "no key set has this derivation key index with keys of the card's suite",
-    RefusalNumber.BAD_CRYPTOGRAM: "the cryptogram is wrong",
-    RefusalNumber.BELOW_WINDOW: "the ATC is 256 or more below this greatest one of the card",
-    RefusalNumber.TAKEN: "another request was decided on this ATC: the shard and the index of its record",
-    RefusalNumber.PENDING: "another line on this ATC was being decided",
-    RefusalNumber.STORE_FAULT: "the journal took no record",
-}
 # Members of a line, in the order and with the words in which they are printed.
 ASKED = {"card": "card", "atc": "ATC", "amount": "amount", "currency": "currency", "terminal": "terminal"}
 
@@ -129,9 +114,8 @@ def host_lines(said: "dict[str, Any]", options: TraceOptions) -> Iterator[str]:
             place = trace_record.RecordPlace(int(said.get("partition", 0)), int(said["shard"]), int(said["place"]))
             yield from trace_record.lines_about(place, options.journal, options.config)
     elif answer:
-        number = answer.split(" ")[1] if " " in answer else ""
-        is_known = number.isdecimal() and int(number) in set(map(int, REASONS))
-        yield f"  host: {answer}" + (f": {REASONS[RefusalNumber(int(number))]}" if is_known else "")
+        reason = reason_of(kind_of(answer).refusal)
+        yield f"  host: {answer}" + (f": {reason}" if reason else "")
     elif said.get("atc") and not said.get("why"):
         yield "  host: no answer in time, or it wasn't asked. It may have decided: look for a repeat"
 

@@ -124,6 +124,8 @@ class Gateway:
         self.orders: Optional[OrderRouter] = None
         # What stands beside the hosts, and is opened before them and ended after: the spool, the account.
         self.beside: list[Beside] = []
+        # Other servers than that of switches: they begin once the hosts are ready, and end before them.
+        self.servers: list[Beside] = []
         self.connections: set[Connection] = set()
         # Connections that have more messages, in the order in which they came to wait.
         self.waiting: dict[Connection, None] = {}
@@ -184,6 +186,8 @@ class Gateway:
             await self.end_hosts()
             return Status.USAGE if refusals[0] == Status.WORDS else refusals[0] or Status.REFUSED
         await self.listen(listeners, figures_port)
+        for server in self.servers:
+            await server.begin()
         service_manager.notify(NAME, "READY=1")
         self.tick()
         self.expire()
@@ -262,7 +266,7 @@ class Gateway:
             await asyncio.sleep(EXPIRE_SECONDS)
         for connection in list(self.connections):
             connection.abort("the gateway ends")
-        for one in reversed(self.beside):
+        for one in (*self.servers, *reversed(self.beside)):
             await one.close()
         await self.end_hosts()
 

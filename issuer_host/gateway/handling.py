@@ -143,6 +143,7 @@ class Handling:
 
         def then(result: Result) -> None:
             exchange.verdict = result.verdict.text
+            exchange.why = "the account declines" if result.code else ""
             self.answered(exchange, result.answer, result.code)
 
         order.authorise(Asked(line, elements, dialect.declines, silent, source, began, then), self.ask)

@@ -25,6 +25,9 @@ partition's number goes. By the second form the hosts are behind the broker that
 --spool          a folder in which advices and reversals are stored before they are acknowledged, as the dialect says
                  (deploy/advices gives them out); without it they are declined
 --trace          NAME: each message gets a line in the file NAME.audit (deploy/trace finds it); none if it is left out
+--http           [ADDRESS:]PORT, or unix:PATH: POST /authorise for own channels, as deploy/openapi.json says, perhaps
+                 with =DIALECT for another one's codes than those of 1987-ascii. Other addresses than the loopback
+                 need --http-anywhere
 --account        where the account is asked of each request: unix:PATH, or http://127.0.0.1:PORT/PATH; nowhere if it is
                  left out. docs/ACCOUNT.md has what it is asked and told
 --account-milliseconds

@@ -19,6 +19,8 @@ LISTEN = "8583=1987-ascii"
 LOOPBACK = "127.0.0.1"
 # The number of a partition in the names of its configuration and its journals.
 NUMBER = "{}"
+# The dialect whose codes HTTP has, if none is named.
+HTTP_DIALECT = "1987-ascii"
 # What becomes of a request whose account is silent; and who is asked first.
 SILENCES, ORDERS = ("decline", "table"), ("account-first", "cryptogram-first")
 
@@ -40,6 +42,8 @@ def parser_of(usage: str) -> argparse.ArgumentParser:
     parser.add_argument("--last-run", default="")
     parser.add_argument("--spool", default="")
     parser.add_argument("--trace", default="")
+    parser.add_argument("--http", default="")
+    parser.add_argument("--http-anywhere", action="store_true")
     parser.add_argument("--account", default="")
     parser.add_argument("--account-milliseconds", type=int, default=500)
     parser.add_argument("--account-silent", choices=SILENCES, default=SILENCES[0])

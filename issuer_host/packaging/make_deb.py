@@ -142,6 +142,7 @@ def add_commands(tree: Tree) -> None:
     tree.write(f"lib/systemd/system/{STANDBY}", standby_of(unit))
     for name in WHOLE_UNITS:
         tree.copy(os.path.join(DEPLOY, "units", name), f"lib/systemd/system/{name}")
+    tree.copy(os.path.join(DEPLOY, "openapi.json"), f"{PRIVATE}/deploy/openapi.json")
     for name in sorted(os.listdir(os.path.join(DEPLOY, "dialects"))):
         tree.copy(os.path.join(DEPLOY, "dialects", name), f"{PRIVATE}/deploy/dialects/{name}")
     # (configurations with keys are there)

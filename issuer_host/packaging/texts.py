@@ -8,7 +8,7 @@ Maintainer: {maintainer}
 Installed-Size: {size}
 Depends: libc6 (>= 2.34), passwd, python3 (>= 3.9), python3-pika
 Recommends: python3-cryptography, python3-decorator, python3-prometheus-client, python3-pykcs11
-Suggests: prometheus, rabbitmq-server, softhsm2
+Suggests: prometheus, python3-aiohttp, rabbitmq-server, softhsm2
 Section: admin
 Priority: optional
 Description: authorisation host for EMV chip cards

@@ -176,9 +176,10 @@ class Gateway:
             self.said += line
             found = LISTENING.search(line)
             if found and process is self.process:
-                name = next(it for it, codec in self.codecs.items() if codec.rules["name"] == found[1])
-                self.ports[name] = int(found[2])
-                self.listening.add(name)
+                # (HTTP may be listened for too)
+                for name in [it for it, codec in self.codecs.items() if codec.rules["name"] == found[1]]:
+                    self.ports[name] = int(found[2])
+                    self.listening.add(name)
 
     def place(self, dialect: str = DIALECTS[0]) -> Place:
         return Place("127.0.0.1", self.ports[dialect], self.codecs[dialect])
