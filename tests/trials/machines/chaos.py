@@ -23,7 +23,7 @@ to a machine that serves a partition:
 Where a node stops a partition over its files, they are put right as OPERATIONS says: by copies of another's journals.
 
 --events has these happen alone, in their order: `events.py` has their names. With --rule a program decides by the rule,
-in place of the nodes' own processes.
+in place of the nodes' own processes. Where nobody is answered for a minute and a half, it says where the run stands.
 
 At the end:
 
@@ -182,6 +182,7 @@ def ask_in_rounds(machines: "Machines", rounds: Sequence[Round], dice: random.Ra
     from issuer_host.broker.publisher import PublishedRequest
     from trials.machines.asker import PacedAsker
     from trials.machines.events import happen
+    from trials.machines.stalls import Stalls
 
     answers: dict[str, list[str]] = collections.defaultdict(list)
     found: dict[str, list[float]] = collections.defaultdict(list)
@@ -190,12 +191,15 @@ def ask_in_rounds(machines: "Machines", rounds: Sequence[Round], dice: random.Ra
     def answered(question: PublishedRequest, text: str) -> None:
         answers[question.line].append(text)
         silences.answered(question.partition, question.began, time.monotonic())
+        stalls.move()
 
     files = machines.publisher_files()
     asker = PacedAsker(machines.partitions, files, ANSWER_SECONDS, answered)
-    with asker:
+    stalls = Stalls(machines, lambda: len(asker.asked))
+    with asker, stalls:
         for one in rounds:
             silences.begin()
+            stalls.begins(one.event)
             happening = threading.Timer(dice.uniform(0.5, 3.0), happen, (machines, one.event, dice))
             if one.event:
                 happening.start()
