@@ -21,6 +21,8 @@ ENVIRONMENT = {
     "DEBFULLNAME": "A Maintainer",
     "DEBEMAIL": "maintainer@example.org",
 }
+# What is beside the dialects.
+SCHEMA = "schema.json"
 LICENCE = "/usr/share/common-licenses/Apache-2.0"
 # How a command begins that reads no module of a user's; the second without the packages of other makers, for speed.
 ISOLATED = ("#!/usr/bin/python3 -I", "#!/usr/bin/python3 -IS")
@@ -143,7 +145,8 @@ def has_its_commands(tally: Tally) -> None:
         tally.holds(os.path.exists(path) and os.access(path, os.X_OK), f"{path} leads nowhere")
     ran = run_tool(tally, package.path("usr/bin/issuer-gateway"), "--listen", "0=none")
     tally.expect(ran.returncode, Status.USAGE, "the status of the packaged gateway without a dialect's name")
-    tally.holds("shipped are 1987-ascii, 1993-packed" in ran.stderr, f"the packaged gateway: {ran.stderr!r}")
+    dialects = sorted(name.removesuffix(".json") for name in os.listdir(f"{HOME}/deploy/dialects") if name != SCHEMA)
+    tally.holds(f"shipped are {', '.join(dialects)}\n" in ran.stderr, f"the packaged gateway: {ran.stderr!r}")
 
 
 def needs_what_it_runs(tally: Tally) -> None:
