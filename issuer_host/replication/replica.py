@@ -4,6 +4,9 @@ It does what `rule_turns.RuleOutside` asks for. A partition that begins again ha
 """
 from typing import Any, Protocol
 
+from issuer_host.facts.paths import RULE
+from issuer_host.facts.proof import is_proved
+from issuer_host.facts.refusal import tell
 from issuer_host.host.command import INPUT, StartOptions, command_of
 from issuer_host.host.event_loop import Action, Loop
 from issuer_host.replication import positions
@@ -25,6 +28,9 @@ from issuer_host.replication.stream import Place as StreamPlace, Stream
 from issuer_host.replication.stream_reader import StreamReader
 from issuer_host.start.careful_start import NODE
 from issuer_host.start.held_configuration import shards_of
+
+
+NAME = "node"
 
 
 class ReplicaOwner(Protocol):
@@ -169,6 +175,8 @@ class Replica:
 def new_rule(node: NodeSettings, beginning: Beginning) -> PartitionRule:
     """Returns the rule that decides for a partition."""
     if node.rule:
+        if not is_proved(node.rule, name=RULE):
+            tell(NAME, f"{node.rule} isn't the proved program: nothing is proved of what it decides")
         return RuleProgram([node.rule], beginning)
     return BridgeRule(beginning)
 

@@ -40,6 +40,10 @@ class RuleProgram:
         self.input, self.output = self.process.stdin, self.process.stdout
         for pipe in (self.input, self.output):
             os.set_blocking(pipe.fileno(), False)
+        self.answers, self.both = select.poll(), select.poll()
+        for poll in (self.answers, self.both):
+            poll.register(self.output.fileno(), select.POLLIN)
+        self.both.register(self.input.fileno(), select.POLLOUT)
         try:
             self.ask([[line] for line in lines_of_beginning(beginning)])
         except TransientFault:
@@ -85,10 +89,7 @@ class RuleProgram:
 
     def wait(self, writes: bool, deadline: float) -> None:
         """Waits until the program has answered, or takes more."""
-        poll = select.poll()
-        poll.register(self.output.fileno(), select.POLLIN)
-        if writes:
-            poll.register(self.input.fileno(), select.POLLOUT)
+        poll = self.both if writes else self.answers
         left = deadline - self.clock()
         if left <= 0 or not poll.poll(left * 1000):
             raise TransientFault(f"the rule's program answered nothing for {self.seconds:.0f} seconds")
