@@ -56,10 +56,10 @@ class FeedRun:
     @property
     def takes_lines(self) -> bool:
         """Whether there is a run that takes more lines, and not only those that it has."""
-        return self.run is not None and self.run.is_open and not self.run.is_full()
+        return self.run is not None and self.run.input.is_open and not self.run.input.is_full()
 
     def has_room(self) -> bool:
-        return self.run is None or len(self.run.unwritten) < MOST_WAITING
+        return self.run is None or len(self.run.input.unwritten) < MOST_WAITING
 
     def begin(self) -> None:
         """Begins a run. None may be running."""
@@ -74,13 +74,13 @@ class FeedRun:
     def put(self, line: bytes) -> int:
         """Gives the run a line. Returns its number in this run, from 1. `flush` has it written."""
         assert self.run is not None
-        self.run.put(line)
-        return self.run.lines
+        self.run.input.put(line)
+        return self.run.input.lines
 
     def flush(self) -> None:
         """Lets the run have what was put."""
         if self.run is not None:
-            self.run.flush()
+            self.run.input.flush()
 
     # The end of a run
 
@@ -88,7 +88,7 @@ class FeedRun:
         """Lets the run take what was put, and end."""
         if self.run is not None:
             self.lifecycle.close(self.clock())
-            self.run.close_when_written()
+            self.run.input.close_when_written()
 
     def finish_now(self) -> "tuple[int, list[str]]":
         """Has the run take what was put and end, and waits for that. Returns its status, and what it said."""
@@ -116,9 +116,9 @@ class FeedRun:
         """Kills a run that takes nothing, doesn't end, or has journals that others replaced."""
         if run is not self.run:
             return
-        untaken = run.untaken()
-        if run.bytes - untaken > self.taken:
-            self.taken = run.bytes - untaken
+        untaken = run.input.untaken()
+        if run.input.bytes - untaken > self.taken:
+            self.taken = run.input.bytes - untaken
             self.lifecycle.answered(self.clock())
         self.files.note()
         actions = self.lifecycle.look(self.clock(), untaken > 0, self.files.look())

@@ -70,12 +70,12 @@ class Supervisor:
     @property
     def takes_lines(self) -> bool:
         """Whether a host has loaded its journals and takes lines."""
-        return self.run is not None and self.run.is_open and self.lifecycle.state is HostState.READY
+        return self.run is not None and self.run.input.is_open and self.lifecycle.state is HostState.READY
 
     @property
     def is_full(self) -> bool:
         """Whether this run has to end before its limit of lines or bytes."""
-        return self.run is not None and self.run.is_full()
+        return self.run is not None and self.run.input.is_full()
 
     def need(self) -> None:
         """Starts a host if there is none: now, or once a wait is over."""
@@ -90,14 +90,14 @@ class Supervisor:
         """Gives the run a line. `flush` has it written."""
         assert self.run is not None
         self.owed += 1
-        self.run.put(line)
+        self.run.input.put(line)
 
     def flush(self) -> None:
         """Writes what was put. A run that is full ends, and the next one begins."""
         if self.run is None:
             return
-        self.run.flush()
-        if self.run.is_full():
+        self.run.input.flush()
+        if self.run.input.is_full():
             self.close()
 
     def close(self) -> None:

@@ -35,8 +35,8 @@ class OneHost:
             if line is None or time.monotonic() - self.start > self.seconds:
                 break
             self.began.append(time.monotonic())
-            self.host.put(line.encode())
-        self.host.flush()
+            self.host.input.put(line.encode())
+        self.host.input.flush()
         if not self.began:
             self.host.close_input()
 
