@@ -16,12 +16,11 @@ from issuer_host.replication.messages import NOTES, Record
 from issuer_host.replication.notes import Notes, was_changed
 from issuer_host.replication.positions import Position
 from issuer_host.replication.record_origins import NOWHERE, RefusedRecord
+from issuer_host.replication.rule_events import MOST_BEYOND
 from issuer_host.replication.standby_run import StandbyRun, TransientFault
 from issuer_host.start.history_checks import is_locked
 
 PIECE = 1 << 16
-# So many records of a shard beyond those that count a rule is told at a start.
-MOST_BEYOND = 128
 LOOK = "the machines' journals aren't of one history; copy another machine's by deploy/node --copy"
 
 

@@ -13,6 +13,7 @@ from typing import Any, NamedTuple, Optional
 from issuer_host.facts.commands import CALLERS
 from issuer_host.facts.refusal import Refusal
 from issuer_host.replication.messages import NAME
+from issuer_host.replication.rule_events import MOST_BEYOND
 
 MOST_PARTITIONS = 1_000
 # What a member may be, by its name; those that may be absent have a default.
@@ -111,5 +112,7 @@ def check(path: str, settings: NodeSettings) -> None:
     for partition in settings.partitions:
         if not CALLERS.takes(str(partition.callers)):
             raise Refusal(f"{path}: the callers of partition {partition.number} are {CALLERS.rule}")
+    if settings.rule and settings.window > MOST_BEYOND:
+        raise Refusal(f"{path}: with a program that decides the window is {MOST_BEYOND} at most")
     if settings.window < 1 or not 0 <= settings.figures < 1 << 16:
         raise Refusal(f"{path}: the window is 1 at least, and the port of the figures a port or 0")

@@ -18,6 +18,8 @@ from typing import NamedTuple, Optional, Protocol, Union
 
 from issuer_host.replication.messages import Barrier, Place, Record
 
+# For so many records of a shard beyond those that count a rule has room at least.
+MOST_BEYOND = 128
 # Why a rule stops for good: a record counts that the host which serves didn't record.
 DIVERGED = "diverged"
 

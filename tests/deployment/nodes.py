@@ -21,11 +21,12 @@ from issuer_host.files.seals import Seals
 from issuer_host.host.feed_run import limits_over
 from issuer_host.orders.intent_log import Begun, DECLINE, MOST_LINES
 from issuer_host.replication import cluster_keys, positions
-from issuer_host.replication.journal_files import JournalFiles, MOST_BEYOND
+from issuer_host.replication.journal_files import JournalFiles
 from issuer_host.replication.messages import Barrier, LOGS, NOTES, Record
 from issuer_host.replication.notes import Notes, as_note, read_notes, work_of, write_notes
 from issuer_host.replication.position_keeper import PositionKeeper
 from issuer_host.replication.record_origins import FedLines, NOWHERE, Origin, RefusedRecord
+from issuer_host.replication.rule_events import MOST_BEYOND
 from issuer_host.replication.standby_run import StandbyRun, TransientFault
 from runs import PANS, SHARDS, write_bytes, write_text
 
@@ -57,6 +58,8 @@ def wrong_files(host: Host) -> "list[tuple[object, str]]":
         ({**right, "machine": 1}, "of another kind"),
         ({**right, "figures": "9"}, "of another kind"),
         ({**right, "figures": 1 << 16}, "a port"),
+        ({**right, "window": 0}, "the window is 1 at least"),
+        ({**right, "window": MOST_BEYOND + 1, "rule": "/bin/true"}, "the window is 128 at most"),
         ({**right, "partitions": []}, "there is one at least"),
         ({**right, "partitions": [one, {**one, "journal": "other"}]}, "a number of its own"),
         ({**right, "partitions": [one, {**one, "number": 1}]}, "the same journals"),
