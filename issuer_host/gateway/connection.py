@@ -1,7 +1,7 @@
 """A peer's connection: frames in, responses out. It holds a buffer of two frames, and the messages in flight."""
 
 import asyncio
-from typing import Optional, Protocol, cast
+from typing import TYPE_CHECKING, Optional, Protocol, cast
 
 from issuer_host.gateway import mapping, responses
 from issuer_host.gateway.figures import GatewayFigures
@@ -9,6 +9,10 @@ from issuer_host.gateway.frames import BadFrame, FrameBuffer, KEEP_ALIVES_A_SECO
 from issuer_host.gateway.handling import Handling
 from issuer_host.gateway.log import Limited
 from issuer_host.gateway.message import Codec, Message, Unreadable, Unwritable
+from issuer_host.gateway.talk import Talk
+
+if TYPE_CHECKING:
+    from issuer_host.gateway.dialling import DialledLink
 
 # Answers that a peer doesn't read are buffered up to so many bytes; then nothing more is read from it.
 WRITE_BYTES = 1 << 16
@@ -26,11 +30,14 @@ class ConnectionLimits(Protocol):
 class ConnectionOwner(Protocol):
     """The gateway, as a connection sees it."""
 
-    limits: ConnectionLimits
     figures: GatewayFigures
     is_stopping: bool
     limited: Limited
     handling: Handling
+
+    @property
+    def limits(self) -> ConnectionLimits:
+        """What bounds its connections."""
 
     def begun(self, connection: "Connection") -> str:
         """Takes a connection; or says why not."""
@@ -45,10 +52,18 @@ class ConnectionOwner(Protocol):
 class Connection(asyncio.BufferedProtocol):
     """A connection in a dialect."""
 
-    def __init__(self, owner: ConnectionOwner, codec: Codec, loop: asyncio.AbstractEventLoop) -> None:
-        self.owner, self.codec, self.dialect, self.loop = owner, codec, codec.dialect, loop
+    def __init__(
+        self,
+        owner: ConnectionOwner,
+        codec: Codec,
+        loop: asyncio.AbstractEventLoop,
+        link: "Optional[DialledLink]" = None,
+    ) -> None:
+        """`link` is the one that was dialled, if a peer didn't open the connection."""
+        self.owner, self.codec, self.dialect, self.loop, self.link = owner, codec, codec.dialect, loop, link
         self.buffer, self.keep_alives = FrameBuffer(self.dialect, owner.limits.frame), KeepAlives()
         self.frame_of = framer_of(self.dialect.frame)
+        self.talk = Talk(self, self.dialect, link is not None)
         self.transport: Optional[asyncio.Transport] = None
         self.in_flight = 0
         # Where the peer is.
@@ -70,6 +85,8 @@ class Connection(asyncio.BufferedProtocol):
         why_not = self.owner.begun(self)
         if why_not:
             self.abort(why_not)
+        else:
+            self.talk.opened()
 
     def get_buffer(self, sizehint: int) -> memoryview:
         return self.buffer.room()
@@ -120,7 +137,7 @@ class Connection(asyncio.BufferedProtocol):
             self.handle(data)
 
     def wait_for_more(self) -> None:
-        if self.owner.is_stopping:
+        if self.owner.is_stopping and not self.talk.is_leaving():
             self.close_after_answers("the gateway ends")
             return
         self.torn_since = None if self.buffer.is_empty else self.torn_since or self.heard
@@ -144,7 +161,13 @@ class Connection(asyncio.BufferedProtocol):
             if fault.so_far is None and not fault.is_of_other_edition:
                 self.close_after_answers("no message")
             return
-        self.owner.handling.take(self, message, self.heard)
+        if self.talk.take(message):
+            return
+        refusal = self.talk.refusal_of(message)
+        if refusal:
+            self.owner.handling.refuse(self, message, self.heard, refusal, "its link is signed off")
+        else:
+            self.owner.handling.take(self, message, self.heard)
 
     def hold(self) -> None:
         """One more message is in flight."""
@@ -206,6 +229,7 @@ class Connection(asyncio.BufferedProtocol):
     def look(self, now: float) -> None:
         """Ends a connection whose peer doesn't read, leaves a frame torn, or is idle. It is called every second."""
         limits = self.owner.limits
+        self.talk.look(now)
         if self.is_stuck:
             if now - self.stuck_since > limits.frame_seconds:
                 self.abort("the peer doesn't read")

@@ -36,9 +36,16 @@ OWN = {
     "silent": "Accepted sockets that have sent nothing yet",
     "in_flight": "Messages that aren't answered yet",
     "hosts_up": "Partitions whose host can be asked",
+    "signed_off": "Connections that are signed off",
+    "links_up": "Connections of a dialled link that are open",
+    "links_signed_on": "Connections of a dialled link that are signed on",
+    "link_dials": "Dials of a link by their outcome",
 }
-LABELLED = ("messages", "responses", "account_answers", "account_notices", "connections_ended", "refused")
-GAUGES = ("connections", "handshakes", "silent", "in_flight", "hosts_up")
+LABELLED = (
+    *("messages", "responses", "account_answers", "account_notices", "connections_ended", "refused"),
+    *("links_up", "links_signed_on", "link_dials"),
+)
+GAUGES = ("connections", "handshakes", "silent", "in_flight", "hosts_up", "signed_off", "links_up", "links_signed_on")
 # Of hosts that the gateway starts: by partition, as a bridge has them.
 OF_HOSTS = {
     "answers": ("counter", "Answers by kind; a refusal has its number"),
@@ -66,7 +73,7 @@ class GatewayFigures:
 
     def __init__(self, partitions: int, has_hosts: bool = True) -> None:
         self.late = self.expired = self.retries = self.unreadable = self.connections_begun = 0
-        self.connections = self.in_flight = self.handshakes = self.silent = 0
+        self.connections = self.in_flight = self.handshakes = self.silent = self.signed_off = 0
         self.labelled: dict[str, dict[Labels, Number]] = {name: {} for name in (*LABELLED, *OF_HOSTS)}
         self.has_hosts, self.host_up = has_hosts, [0] * partitions
         # Sets the gauges of the port and of hosts.

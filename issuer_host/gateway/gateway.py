@@ -11,6 +11,7 @@ from typing import Any, Optional, Protocol
 from issuer_host.facts.statuses import Status
 from issuer_host.gateway.admission import Admission, PortLimits
 from issuer_host.gateway.connection import Connection
+from issuer_host.gateway.dialling import DialledLink, Dialler
 from issuer_host.gateway.figures import GatewayFigures
 from issuer_host.gateway.figures_page import FiguresPage
 from issuer_host.gateway.handling import Handling
@@ -126,6 +127,8 @@ class Gateway:
         self.beside: list[Beside] = []
         # Other servers than that of switches: they begin once the hosts are ready, and end before them.
         self.servers: list[Beside] = []
+        # Opens links to peers that are dialled.
+        self.dialler = Dialler(loop, self.dialled, self.figures, None)
         self.connections: set[Connection] = set()
         # Connections that have more messages, in the order in which they came to wait.
         self.waiting: dict[Connection, None] = {}
@@ -135,7 +138,7 @@ class Gateway:
     # What connections call
 
     def begun(self, connection: Connection) -> str:
-        why_not = self.port.opened(connection)
+        why_not = self.port.opened(connection) if connection.link is None else connection.link.opened(connection)
         if why_not or self.is_stopping:
             return why_not or "the gateway ends"
         self.connections.add(connection)
@@ -143,8 +146,13 @@ class Gateway:
         self.figures.connections = len(self.connections)
         return ""
 
+    def dialled(self, codec: Codec, link: DialledLink) -> Connection:
+        return Connection(self, codec, self.loop, link)
+
     def ended(self, connection: Connection, why: str) -> None:
         self.port.ended(connection)
+        if connection.link is not None:
+            connection.link.ended(connection, why)
         self.connections.discard(connection)
         self.waiting.pop(connection, None)
         self.figures.connections = len(self.connections)
@@ -188,6 +196,7 @@ class Gateway:
         await self.listen(listeners, figures_port)
         for server in self.servers:
             await server.begin()
+        self.dialler.start()
         service_manager.notify(NAME, "READY=1")
         self.tick()
         self.expire()
@@ -222,6 +231,8 @@ class Gateway:
     def measure(self) -> None:
         """Sets what is measured of port and hosts when somebody asks for figures."""
         self.port.measure()
+        self.dialler.measure()
+        self.figures.signed_off = sum(not it.talk.session.is_signed_on for it in self.connections)
         now, counts = self.loop.time(), [0] * len(self.hosts)
         oldest = [0.0] * len(self.hosts)
         for question in self.traffic.open.values():
@@ -259,6 +270,7 @@ class Gateway:
         if self.orders is not None:
             self.orders.end()
         self.port.close()
+        self.dialler.stop()
         for connection in list(self.connections):
             connection.take()
         until = self.loop.time() + self.limits.seconds + TICK_SECONDS

@@ -101,6 +101,14 @@ class Handling:
         elif what == mapping.DECLINE:
             self.settle(exchange, mapping.UNSUPPORTED)
 
+    def refuse(self, peer: MessagePeer, message: Message, began: float, code: str, why: str) -> None:
+        """Answers a message with a code of its dialect, and asks nobody."""
+        exchange = Exchange(peer, message, began)
+        exchange.why = why
+        self.figures.count("messages", ("what", mapping.DECLINE))
+        self.limited.tell(f"{exchange.name} is answered with {code}: {why}")
+        self.respond(exchange, responses.response_to(peer.dialect, message, code))
+
     def unreadable(self, peer: MessagePeer, fault: Unreadable, began: float) -> None:
         """Takes a message that can't be read, or not as a whole."""
         self.figures.unreadable += 1

@@ -7,7 +7,9 @@ By the first form it starts the hosts itself, each by issuer-run: one, or P of t
 partition's number goes. By the second form the hosts are behind the broker that FILE names.
 
 --listen         [ADDRESS:]PORT=DIALECT, as often as needed: a dialect is the name of a shipped one, or a file
-                 (8583=1987-ascii on the loopback)
+                 (8583=1987-ascii on the loopback, if nobody is dialled)
+--connect        HOST:PORT=DIALECT: a peer that the gateway dials, as often as there are to be connections to it; it
+                 signs on, sends echo tests and signs off as the dialect says, and dials again after waits that grow
 --tls-certificate, --tls-key, --tls-clients
                  files in PEM: peers have to show a certificate of one of the last one's authorities
 --tls-names      a name that a peer's certificate has to have, as often as needed: its common name, or a DNS name of it
@@ -47,6 +49,7 @@ from collections.abc import Sequence
 from issuer_host.facts.refusal import Refusal
 from issuer_host.facts.statuses import Status
 from issuer_host.gateway import beside, options as options_of
+from issuer_host.gateway.dialling import DialledLink
 from issuer_host.gateway.gateway import Gateway, Partition
 from issuer_host.gateway.log import NAME, tell
 from issuer_host.gateway.options import BadOptions
@@ -81,7 +84,9 @@ async def run(words: Sequence[str]) -> int:
     has_hosts = not options.broker_file
     is_ordered = has_hosts and options.callers == 1
     gateway = Gateway(asyncio.get_running_loop(), options.partitions, bounds, context, is_ordered, has_hosts)
-    gateway.port.names = PeerNames(options.tls_names or ())
+    names = gateway.port.names = PeerNames(options.tls_names or ())
+    gateway.dialler.context = options_of.dialling_tls_of(options)
+    gateway.dialler.links = [DialledLink(place, names) for place in options_of.places_of(options)]
     beside.add_to(gateway, options)
     gateway.hosts = brokered(gateway, options) if options.broker_file else pipe_hosts(gateway, options)
     return await gateway.run(listeners, options.figures)

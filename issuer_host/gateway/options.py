@@ -10,6 +10,7 @@ from issuer_host.facts.paths import HOME
 from issuer_host.files.private_files import check_secret
 from issuer_host.gateway.dialect import Dialect
 from issuer_host.gateway.dialect_file import BadDialect, named, read_dialect, shipped_in
+from issuer_host.gateway.dialling import DialledPlace
 from issuer_host.gateway.frames import GREATEST_FRAME
 from issuer_host.gateway.gateway import Bounds, Listener
 from issuer_host.gateway.message import Codec
@@ -49,6 +50,7 @@ def parser_of(usage: str) -> argparse.ArgumentParser:
     parser.add_argument("--account-silent", choices=SILENCES, default=SILENCES[0])
     parser.add_argument("--account-order", choices=ORDERS, default=ORDERS[0])
     parser.add_argument("--listen", action="append")
+    parser.add_argument("--connect", action="append")
     parser.add_argument("--tls-certificate")
     parser.add_argument("--tls-key")
     parser.add_argument("--tls-clients")
@@ -108,7 +110,21 @@ def bounds_of(options: argparse.Namespace) -> Bounds:
 
 
 def listeners_of(options: argparse.Namespace) -> list[Listener]:
-    return [listener_of(text) for text in options.listen or [LISTEN]]
+    return [listener_of(text) for text in options.listen or ([] if options.connect else [LISTEN])]
+
+
+def places_of(options: argparse.Namespace) -> list[DialledPlace]:
+    """Who is dialled: each as often as it is named."""
+    return [dialled_of(text) for text in options.connect or ()]
+
+
+def dialled_of(text: str) -> DialledPlace:
+    """The place of `HOST:PORT=DIALECT`."""
+    place, _, name = text.partition("=")
+    host, _, port = place.rpartition(":")
+    if not name or not host or not port.isdecimal() or not 0 < int(port) <= 65535:
+        raise BadOptions(f"--connect is HOST:PORT=DIALECT, and not {text}")
+    return DialledPlace(host.strip("[]"), int(port), Codec(dialect_of(name)))
 
 
 def listener_of(text: str) -> Listener:
@@ -144,6 +160,25 @@ def tls_of(options: argparse.Namespace) -> Optional[ssl.SSLContext]:
     except (OSError, ssl.SSLError) as fault:
         raise BadOptions(f"the certificates can't be used: {fault}") from fault
     context.verify_mode = ssl.CERT_REQUIRED
+    context.minimum_version = ssl.TLSVersion.TLSv1_2
+    if options.tls_revoked:
+        refuse_revoked(context, options.tls_revoked)
+    return context
+
+
+def dialling_tls_of(options: argparse.Namespace) -> Optional[ssl.SSLContext]:
+    """TLS for links that are dialled, by the same files, or None.
+
+    A peer has to show a certificate with its host's name, or with one of --tls-names if there are some.
+    """
+    if options.tls_clients is None:
+        return None
+    try:
+        context = ssl.create_default_context(ssl.Purpose.SERVER_AUTH, cafile=options.tls_clients)
+        context.load_cert_chain(options.tls_certificate, options.tls_key)
+    except (OSError, ssl.SSLError) as fault:
+        raise BadOptions(f"the certificates can't be used: {fault}") from fault
+    context.check_hostname = not options.tls_names
     context.minimum_version = ssl.TLSVersion.TLSv1_2
     if options.tls_revoked:
         refuse_revoked(context, options.tls_revoked)
