@@ -299,9 +299,10 @@ serves Following = false
 serves (Beginning own) = false
 serves (Serving own) = true
 
--- the bridge after a message of records by this name, and the step at each; it is refused exactly if the bridge serves
+-- the bridge after a message of records by this name, and the step at each; the records are of its logs; it is refused exactly if the bridge serves
 -- and a step changes its journals
 pub record DoesReadRecords (old new : BridgeState) (name : Word) (records : List Indexed) (steps : List Step) (is_taken : Bool) : Type 0 where
+  pub within : All (λ one. one.shard < length old.logs) records
   pub logs : new ≡ with_logs old (logs_read old name records)
   pub steps_are : steps ≡ steps_read old name records
   pub taken : IsTrue is_taken ↔ (IsServing old.role → are_quiet (steps_read old name records) ≡ true)

@@ -34,6 +34,7 @@ impl Bridge {
         requires shard { shard < LOGS }
         requires role { IsLearning self.old.role }
         ensures room { IsOk result ↔ (length (log_at self.old.logs shard).beyond < (log_at self.old.logs shard).room) }
+        ensures within { shard < length self.old.logs }
         ensures state { IsOk result → self.new ≡ learned self.old shard text.now.items }
         ensures event { IsOk result → (world : World) → StandsIn self.old world
             → IsNextKnown self.old world shard text.now.items → DoesLearn self.old.role self.new world shard }
