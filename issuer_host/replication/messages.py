@@ -20,6 +20,8 @@ NAME = re.compile(r"[0-9A-Za-z_.-]{1,64}")
 NUMBER = re.compile(r"0|[1-9][0-9]{0,17}")
 # How many records one message has at most: the longest ones too are within what a broker takes of a message.
 MAX_RECORDS = 100
+# How many characters a record has at most: those of a journal and the notes have 500.
+MAX_TEXT = 1_024
 # Characters of a text that a reason has.
 SHOWN = 40
 
@@ -99,6 +101,8 @@ def record_of(line: str) -> Record:
     place, _, text = rest.partition(" ")
     if not text or number_of(shard) >= LOGS:
         raise MessageFault(f"no feed line is {line[:SHOWN]!r}")
+    if len(text) > MAX_TEXT:
+        raise MessageFault(f"a record has {len(text)} characters, and {MAX_TEXT} are the most")
     return Record(number_of(shard), number_of(place), text)
 
 

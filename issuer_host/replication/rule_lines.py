@@ -79,7 +79,7 @@ def lines_of_event(event: Event) -> "list[str]":
     if isinstance(event, Called):
         return [f"called {event.name}"]
     if isinstance(event, MessageRead):
-        text = event.text.split("\n")[:-1]
+        text = lines_of_text(event.text)
         return [f"message {len(text)}", *text]
     if isinstance(event, Answered):
         place = f" {event.place[0]} {event.place[1]}" if event.place else ""
@@ -98,13 +98,19 @@ def lines_of_action(action: Action) -> "list[str]":
     if isinstance(action, RecordsCount):
         return [f"count {action.shard} {action.number}"]
     if isinstance(action, Publish):
-        text = action.text.split("\n")[:-1]
+        text = lines_of_text(action.text)
         return [f"publish {len(text)}", *text]
     if isinstance(action, Reply):
         return [f"reply {action.number}"]
     if isinstance(action, Stop):
         return [f"stop {action.why}"]
     return [next(word for word, plain in PLAIN_ACTIONS.items() if type(plain) is type(action))]
+
+
+def lines_of_text(text: str) -> "list[str]":
+    """Returns the lines of a text. One whose last line isn't ended is no message, as "", and has none."""
+    *lines, rest = text.split("\n")
+    return [] if rest else lines
 
 
 def text_of_lines(count: str, lines: "Iterator[str]") -> str:
