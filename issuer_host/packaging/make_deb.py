@@ -47,6 +47,7 @@ COMMANDS = {
     "standby": "issuer-standby",
     "gateway": "issuer-gateway",
     "dialect": "issuer-dialect",
+    "clearing-lines": "issuer-clearing-lines",
     "look": "issuer-look",
     "check": "issuer-check",
     "keys": "issuer-keys",
