@@ -14,7 +14,7 @@ use Rattle.bridge_rule.specs.Roles.{stage_of}
 use Rattle.bridge_rule.specs.declared.role.Role.{Role}
 use Rattle.bridge_rule.specs.declared.role.Role.TheVariants.{Untold, Following, Beginning, Serving}
 use Rattle.bridge_rule.specs.Logs.{LogState, new_log, with_known, known_of}
-use Rattle.bridge_rule.specs.Bridges.{BridgeState, StandsIn, IsKnown, IsLearning, log_at, with_logs, learned}
+use Rattle.bridge_rule.specs.Bridges.{BridgeState, StandsIn, IsKnown, IsLearning, log_at, learned}
 use Rattle.bridge_rule.specs.Events.{IsNextKnown, DoesLearn, DoesLook, one_more}
 use Rattle.bridge_rule.proofs.Standing.{stands-here}
 

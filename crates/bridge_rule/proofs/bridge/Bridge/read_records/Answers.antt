@@ -1,5 +1,5 @@
 -- The steps settle the journals, and where the bridge serves they change none.
-use Rattle.std.proofs.Common.{◌≡◌, List, map, refl, sym, ◌∙◌, subst, ap}
+use Rattle.std.proofs.Common.{List, map, refl, sym, ◌∙◌, subst, ap}
 use Rattle.one_history.specs.Streams.{OfRecords}
 use Rattle.bridge_rule.specs.declared.log.Step.{Step}
 use Rattle.bridge_rule.specs.Bridges.{BridgeState, indexed, performed, steps_read, are_quiet, IsServing}
