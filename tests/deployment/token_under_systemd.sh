@@ -23,7 +23,11 @@ check lines_are_answered "$(ask 0)" "8 fresh"
 kill -9 "$(host)"
 check a_killed_host_is_followed_by_another "$(ask 1)" "8 fresh"
 check keys_are_those_of_their_check_values "$(with_pin issuer-keys check --config /etc/issuer/0.json | tail -1)" "2 keys are those of their check values"
-check the_pin_is_in_memory_alone "$(stat -f -c %T /run/credentials/issuer@0.service/pin) $(find / -xdev -name 'user.pin' | wc -l)" "ramfs 0"
+pin() { systemd-creds decrypt --name=pin /etc/issuer/pin.cred - 2>/dev/null; }
+check the_pin_is_in_memory "$(stat -f -c %T /run/credentials/issuer@0.service/pin) $(pin | grep -cE '^[0-9]{32}$')" "ramfs 1"
+FOUND=$(grep -rlsF -- "$(pin)" /etc /var/lib/issuer /var/lib/issuer-token /var/lib/systemd /var/log /run /root)
+check and_in_no_file_beside "$(grep -v '^/run/credentials/' <<< "$FOUND" | xargs)" ""
+check where_the_units_have_it_it_is_found "$(grep -c '^/run/credentials/issuer.*@0.service/pin$' <<< "$FOUND")" 2
 check no_bridge_has_a_key "$(clean processes "$(main_of issuer@0)" "$(main_of issuer-standby@0)")" searched
 check its_host_has_the_keys "$(search processes "$(host)" | grep -c 'memory of')" 1
 
