@@ -34,12 +34,14 @@ from typing import NamedTuple
 from issuer_host.facts.refusal import Refusal, tell
 from issuer_host.facts.statuses import Status
 from issuer_host.files import spool
-from issuer_host.files.spool import Line, Place, Position
+from issuer_host.files.spool import SpoolLine, SpoolPlace, SpoolPosition
 
 NAME = "advices"
 MOST = 1000
 # Lines that `show` counts at a time.
 COUNTED = 10_000
+# Batches, files and offsets stay below. (An account number isn't said again as one that is wrong.)
+NUMBER_END = 10**10
 DAY_SECONDS = 86_400.0
 
 
@@ -65,8 +67,12 @@ def options_of(words: Sequence[str]) -> AdviceOptions:
     parser.add_argument("--most", type=int, default=MOST)
     parser.add_argument("--days", type=float, default=0.0)
     found = AdviceOptions(**vars(parser.parse_args(words)))
-    if len(found.numbers) != WORDS[found.what] or min([0, *found.numbers]) < 0:
-        parser.error(f"{found.what} takes {WORDS[found.what]} numbers")
+    if (
+        len(found.numbers) != WORDS[found.what]
+        or min([0, *found.numbers]) < 0
+        or max([0, *found.numbers]) >= NUMBER_END
+    ):
+        parser.error(f"{found.what} takes {WORDS[found.what]} numbers of at most ten digits")
     if found.most < 1 or found.what == "forget" and found.days <= 0:
         parser.error("--most is 1 at least, and forget takes --days, above 0")
     return found
@@ -92,7 +98,7 @@ def take(options: AdviceOptions) -> None:
         lines = spool.lines_of(folder, position.confirmed, options.most)
         if not lines:
             return
-        position = Position(position.confirmed, position.batch + 1, lines[-1].end)
+        position = SpoolPosition(position.confirmed, position.batch + 1, lines[-1].end)
         spool.write_position(folder, position)
     else:
         lines = taken_lines(folder, position)
@@ -102,10 +108,10 @@ def take(options: AdviceOptions) -> None:
     sys.stdout.flush()
 
 
-def taken_lines(folder: str, position: Position) -> list[Line]:
+def taken_lines(folder: str, position: SpoolPosition) -> list[SpoolLine]:
     """The lines of the batch that was taken and isn't confirmed."""
     assert position.taken is not None
-    found: list[Line] = []
+    found: list[SpoolLine] = []
     begin = position.confirmed
     while begin < position.taken:
         lines = [it for it in spool.lines_of(folder, begin, COUNTED) if it.end <= position.taken]
@@ -119,7 +125,7 @@ def taken_lines(folder: str, position: Position) -> list[Line]:
 def confirm(options: AdviceOptions) -> None:
     position, batch = spool.read_position(options.spool), options.numbers[0]
     if position.taken is not None and batch == position.batch:
-        spool.write_position(options.spool, Position(position.taken, batch))
+        spool.write_position(options.spool, SpoolPosition(position.taken, batch))
     elif not 0 < batch <= position.batch - (position.taken is not None):
         waits = f"batch {position.batch} waits" if position.taken is not None else "none waits"
         raise Refusal(f"batch {batch} wasn't taken: {waits} to be confirmed")
@@ -151,11 +157,13 @@ def forget(options: AdviceOptions) -> None:
 
 def set_position(options: AdviceOptions) -> None:
     segment, at, batch = options.numbers
-    place = Place(segment, at)
-    ends = {line.end for line in spool.lines_of_segment(options.spool, Place(segment), sys.maxsize)} | {Place(segment)}
+    place = SpoolPlace(segment, at)
+    ends = {line.end for line in spool.lines_of_segment(options.spool, SpoolPlace(segment), sys.maxsize)} | {
+        SpoolPlace(segment)
+    }
     if place not in ends:
         raise Refusal(f"no line of file {segment} ends at {at}")
-    spool.write_position(options.spool, Position(place, batch))
+    spool.write_position(options.spool, SpoolPosition(place, batch))
 
 
 DOES: dict[str, Callable[[AdviceOptions], None]] = {

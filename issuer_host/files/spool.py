@@ -24,7 +24,7 @@ POSITION = "position"
 PIECE = 1 << 20
 
 
-class Place(NamedTuple):
+class SpoolPlace(NamedTuple):
     """Where a line begins: the number of its file, and the offset there."""
 
     segment: int = 1
@@ -35,11 +35,11 @@ class Place(NamedTuple):
         return f"{self.segment}-{self.at}"
 
 
-class Line(NamedTuple):
+class SpoolLine(NamedTuple):
     """A line of the spool: where it begins, where it ends, and its text without the newline."""
 
-    place: Place
-    end: Place
+    place: SpoolPlace
+    end: SpoolPlace
     text: str
 
     def said(self) -> dict[str, Any]:
@@ -50,12 +50,12 @@ class Line(NamedTuple):
             return {"what": "damaged", "text": self.text}
 
 
-class Position(NamedTuple):
+class SpoolPosition(NamedTuple):
     """How far the lines were confirmed, in which batch, and how far the batch goes that isn't confirmed yet."""
 
-    confirmed: Place = Place()
+    confirmed: SpoolPlace = SpoolPlace()
     batch: int = 0
-    taken: Optional[Place] = None
+    taken: Optional[SpoolPlace] = None
 
 
 def segment_path(folder: str, number: int) -> str:
@@ -77,21 +77,21 @@ def locked(file: int, kind: int) -> Iterator[None]:
         fcntl.flock(file, fcntl.LOCK_UN)
 
 
-def lines_of(folder: str, begin: Place, most: int) -> list[Line]:
+def lines_of(folder: str, begin: SpoolPlace, most: int) -> list[SpoolLine]:
     """The lines from a place on, so many at most. Each is durable."""
-    found: list[Line] = []
+    found: list[SpoolLine] = []
     for number in segments_of(folder):
         if number >= begin.segment and len(found) < most:
             at = begin.at if number == begin.segment else 0
-            found += lines_of_segment(folder, Place(number, at), most - len(found))
+            found += lines_of_segment(folder, SpoolPlace(number, at), most - len(found))
     return found
 
 
-def lines_of_segment(folder: str, begin: Place, most: int) -> list[Line]:
+def lines_of_segment(folder: str, begin: SpoolPlace, most: int) -> list[SpoolLine]:
     """The whole lines of a file from a place on, so many at most."""
     path = segment_path(folder, begin.segment)
     check_private(path, "spool")
-    file, found, rest, at = open_regular(path, os.O_RDONLY), list[Line](), b"", begin.at
+    file, found, rest, at = open_regular(path, os.O_RDONLY), list[SpoolLine](), b"", begin.at
     try:
         with locked(file, fcntl.LOCK_SH):
             os.fdatasync(file)
@@ -102,7 +102,9 @@ def lines_of_segment(folder: str, begin: Place, most: int) -> list[Line]:
                 *whole, rest = (rest + piece).split(b"\n")
                 for text in whole[: most - len(found)]:
                     end = at + len(text) + 1
-                    line = Line(Place(begin.segment, at), Place(begin.segment, end), text.decode("utf-8", "replace"))
+                    line = SpoolLine(
+                        SpoolPlace(begin.segment, at), SpoolPlace(begin.segment, end), text.decode("utf-8", "replace")
+                    )
                     found.append(line)
                     at = end
     finally:
@@ -110,16 +112,18 @@ def lines_of_segment(folder: str, begin: Place, most: int) -> list[Line]:
     return found
 
 
-def read_position(folder: str) -> Position:
+def read_position(folder: str) -> SpoolPosition:
     """How far the lines were given out. A file that was changed is a Refusal."""
     path = os.path.join(folder, POSITION)
     try:
         with open(path, encoding="utf-8") as text:
             said = said_of(text.read().rstrip("\n"))
         taken = said["taken"]
-        return Position(Place(*said["confirmed"]), int(said["batch"]), None if taken is None else Place(*taken))
+        return SpoolPosition(
+            SpoolPlace(*said["confirmed"]), int(said["batch"]), None if taken is None else SpoolPlace(*taken)
+        )
     except FileNotFoundError:
-        return Position()
+        return SpoolPosition()
     except (ValueError, KeyError, TypeError) as fault:
         raise Refusal(
             f"{path} was changed since it was written: restore it from a copy. Without one, look at the last batch that"
@@ -127,7 +131,7 @@ def read_position(folder: str) -> Position:
         ) from fault
 
 
-def write_position(folder: str, position: Position) -> None:
+def write_position(folder: str, position: SpoolPosition) -> None:
     """Notes durably how far the lines were given out."""
     said = json.loads(json.dumps(position._asdict()))
     put_in_place(os.path.join(folder, POSITION), summed(said) + "\n")

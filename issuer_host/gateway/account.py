@@ -96,7 +96,7 @@ def verdict_of(said: Mapping[str, Any]) -> Optional[Verdict]:
     return Verdict(NO, code) if answer == NO and isinstance(code, str) and code.isalnum() else None
 
 
-class Question:
+class AccountQuestion:
     """A question without an answer yet."""
 
     __slots__ = ("key", "then", "timer")
@@ -124,7 +124,7 @@ class Account:
         self.connect: Callable[[], Optional[AccountLink]] = lambda: None
         self.link: Optional[AccountLink] = None
         self.number = 0
-        self.open: dict[int, Question] = {}
+        self.open: dict[int, AccountQuestion] = {}
         # The keys of questions whose time was over.
         self.late: collections.OrderedDict[int, str] = collections.OrderedDict()
         self.notices: dict[int, dict[str, Any]] = {}
@@ -138,7 +138,7 @@ class Account:
         self.number += 1
         number = self.number
         timer = self.loop.call_later(self.seconds, self.expire, number)
-        self.open[number] = Question(key, lambda verdict: then(key, verdict), timer)
+        self.open[number] = AccountQuestion(key, lambda verdict: then(key, verdict), timer)
         if self.link is None or not self.link.send(number, said):
             self.end(number, Verdict(SILENT))
 

@@ -22,7 +22,7 @@ class Result(NamedTuple):
     code: str = ""
 
 
-class Asked(NamedTuple):
+class RequestOnItsWay(NamedTuple):
     """A request on its way.
 
     `declines` has the statuses of cards by the account's codes, and `silent` is the code where it is silent.
@@ -43,7 +43,7 @@ class AccountOrder:
     def __init__(self, account: Account, is_cryptogram_first: bool) -> None:
         self.account, self.is_cryptogram_first = account, is_cryptogram_first
 
-    def authorise(self, asked: Asked, ask_host: AskHost) -> None:
+    def authorise(self, asked: RequestOnItsWay, ask_host: AskHost) -> None:
         if self.is_cryptogram_first:
             ask_host(asked.line, asked.source, asked.began, lambda answer: self.decided(asked, answer))
         else:
@@ -51,7 +51,7 @@ class AccountOrder:
 
     # The account first
 
-    def held(self, asked: Asked, ask_host: AskHost, key: str, verdict: Verdict) -> None:
+    def held(self, asked: RequestOnItsWay, ask_host: AskHost, key: str, verdict: Verdict) -> None:
         """The account answered: the host is asked, with the status of the account's decline if it said no."""
         line: Optional[RequestLine] = asked.line
         if self.is_no(verdict):
@@ -67,7 +67,7 @@ class AccountOrder:
     def is_no(self, verdict: Verdict) -> bool:
         return verdict.word == NO or verdict.word == SILENT and not self.account.is_table
 
-    def compare(self, asked: Asked, key: str, verdict: Verdict, answer: Optional[str]) -> None:
+    def compare(self, asked: RequestOnItsWay, key: str, verdict: Verdict, answer: Optional[str]) -> None:
         """The host answered. Without an answer in time the request may be decided: a repeat or a reversal comes."""
         is_approved = approves(answer)
         if verdict.word == YES and answer is not None and not is_approved:
@@ -78,13 +78,13 @@ class AccountOrder:
 
     # The cryptogram first
 
-    def decided(self, asked: Asked, answer: Optional[str]) -> None:
+    def decided(self, asked: RequestOnItsWay, answer: Optional[str]) -> None:
         if not approves(answer):
             asked.then(Result(answer, Verdict("")))
             return
         self.account.ask(asked.line, asked.elements, lambda key, verdict: self.agreed(asked, answer, key, verdict))
 
-    def agreed(self, asked: Asked, answer: Optional[str], key: str, verdict: Verdict) -> None:
+    def agreed(self, asked: RequestOnItsWay, answer: Optional[str], key: str, verdict: Verdict) -> None:
         """The account answered after the host approved. Its no goes to the terminal without a reply for the card."""
         if self.is_no(verdict):
             asked.then(Result(answer, verdict, verdict.code or asked.silent))

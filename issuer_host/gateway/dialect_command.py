@@ -11,6 +11,7 @@ byte. PANs are masked; of track data, PIN blocks and chip data only the size is 
 The status is 0, 2 if the dialect has a fault, and 10 if a frame can't be read.
 """
 
+import re
 import sys
 from collections.abc import Iterable, Sequence
 
@@ -27,6 +28,13 @@ from issuer_host.gateway.options import DIALECTS
 # Of these elements no more than the size is printed: track data, PIN block, keys, chip data.
 UNSEEN = (35, 36, 45, 52, 53, 55, 96)
 BYTES_SHOWN = 8
+# What may be an account number in a text that isn't a dialect.
+PAN = re.compile(r"[0-9]{12,19}")
+
+
+def without_pans(text: str) -> str:
+    """Returns a text of a dialect or of a frame with each number masked that may be an account number."""
+    return PAN.sub(lambda found: masked(found[0]), text)
 
 
 def main(words: Sequence[str]) -> int:
@@ -39,7 +47,7 @@ def main(words: Sequence[str]) -> int:
     try:
         dialect = read_dialect(named(words[1], DIALECTS))
     except BadDialect as wrong:
-        print(wrong)
+        print(without_pans(str(wrong)))
         return Status.CONFIGURATION
     if words[0] == "check":
         print(f"{words[1]}: {dialect.name}, {len(dialect.formats)} elements: no fault")
@@ -60,7 +68,7 @@ def read_frames(codec: Codec, text: str) -> bool:
     try:
         data = bytes.fromhex(text.strip())
     except ValueError:
-        print(f"no hexadecimal digits: {text.strip()[:40]}")
+        print(f"no hexadecimal digits: {without_pans(text.strip()[:40])}")
         return False
     buffer, are_read = FrameBuffer(codec.dialect, GREATEST_FRAME), True
     buffer.data = bytearray(max(len(buffer.data), len(data)))

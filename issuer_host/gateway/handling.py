@@ -8,7 +8,7 @@ from issuer_host.facts import answers
 from issuer_host.facts.masks import masked
 from issuer_host.gateway import mapping, requests, responses
 from issuer_host.gateway.account import elements_of
-from issuer_host.gateway.account_order import AccountOrder, Asked, Result
+from issuer_host.gateway.account_order import AccountOrder, RequestOnItsWay, Result
 from issuer_host.gateway.advices import Advices
 from issuer_host.gateway.dialect import Dialect
 from issuer_host.gateway.figures import GatewayFigures
@@ -154,7 +154,7 @@ class Handling:
             exchange.why = "the account declines" if result.code else ""
             self.answered(exchange, result.answer, result.code)
 
-        order.authorise(Asked(line, elements, dialect.declines, silent, source, began, then), self.ask)
+        order.authorise(RequestOnItsWay(line, elements, dialect.declines, silent, source, began, then), self.ask)
 
     def answered(self, exchange: Exchange, answer: Optional[str], code: str = "") -> None:
         """A host's answer, or None if there was none. If the account declined by itself, there is its code."""

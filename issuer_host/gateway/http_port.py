@@ -49,7 +49,7 @@ class HttpPlace(NamedTuple):
     dialect: Dialect
 
 
-class Asked(NamedTuple):
+class HttpQuestion(NamedTuple):
     """What a body asks."""
 
     line: RequestLine
@@ -149,7 +149,7 @@ def error(status: int, why: str, headers: Optional[dict[str, str]] = None) -> we
     return web.json_response({"error": why}, status=status, headers=headers)
 
 
-def asked_of(body: object, dialect: Dialect) -> Asked:
+def asked_of(body: object, dialect: Dialect) -> HttpQuestion:
     """What a body asks; BadRequest if it asks nothing."""
     if not isinstance(body, dict) or set(body) - MEMBERS:
         raise BadRequest(f"the body is an object with members among {', '.join(sorted(MEMBERS))}")
@@ -176,7 +176,7 @@ def asked_of(body: object, dialect: Dialect) -> Asked:
     message = Message(f"{mapping.EDITIONS.index(dialect.edition)}{REPEAT if is_repeat else REQUEST}")
     if reference:
         message.elements[mapping.RRN] = reference
-    return Asked(line, message)
+    return HttpQuestion(line, message)
 
 
 def declined(line: RequestLine, status: object) -> RequestLine:

@@ -16,7 +16,7 @@ from issuer_host.files import spool
 from issuer_host.files.folders import check_folder, sync_folder
 from issuer_host.files.private_files import check_private
 from issuer_host.files.regular_files import open_regular
-from issuer_host.files.spool import Line, Place
+from issuer_host.files.spool import SpoolLine, SpoolPlace
 from issuer_host.files.summed_lines import summed
 from issuer_host.files.whole_writes import write_whole
 
@@ -40,7 +40,7 @@ class SpoolWriter:
         # Whether the files could be opened, and their last lines read.
         self.is_open = False
 
-    def open(self) -> list[Line]:
+    def open(self) -> list[SpoolLine]:
         """Begins to write, and returns the last lines that were written before. A crash may have torn the last one."""
         os.makedirs(self.folder, mode=0o700, exist_ok=True)
         check_folder(self.folder)
@@ -48,10 +48,10 @@ class SpoolWriter:
             self.take_lock()
         numbers = spool.segments_of(self.folder) or [1]
         self.open_segment(numbers[-1])
-        found: list[Line] = []
+        found: list[SpoolLine] = []
         for number in numbers[-KNOWN_SEGMENTS:]:
-            found += spool.lines_of_segment(self.folder, Place(number), self.segment_bytes)
-        last = found[-1].end if found else Place(self.number)
+            found += spool.lines_of_segment(self.folder, SpoolPlace(number), self.segment_bytes)
+        last = found[-1].end if found else SpoolPlace(self.number)
         self.size = last.at if last.segment == self.number else 0
         self.restore()
         self.is_open = True
@@ -128,7 +128,7 @@ class SpoolQueue:
     ) -> None:
         self.loop, self.writer, self.memory, self.seconds, self.tell = loop, writer, memory, seconds, tell
         self.thread = ThreadPoolExecutor(1, "spool")
-        self.waiting: list[Waiting] = []
+        self.waiting: list[WaitingObject] = []
         self.work: Optional[asyncio.Task[None]] = None
 
     async def begin(self) -> None:
@@ -143,14 +143,14 @@ class SpoolQueue:
         self.memory.load(line.said() for line in lines)
 
     def add(self, said: dict[str, Any], then: Stored) -> None:
-        self.waiting.append(Waiting(self.loop, said, self.seconds, then))
+        self.waiting.append(WaitingObject(self.loop, said, self.seconds, then))
         if self.work is None:
             self.work = self.loop.create_task(self.write())
 
     async def write(self) -> None:
         """Writes what waits, all at once, until nothing waits."""
         while self.waiting:
-            taken = list[Waiting]()
+            taken = list[WaitingObject]()
             try:
                 if not self.writer.is_open:
                     await self.open()
@@ -168,7 +168,7 @@ class SpoolQueue:
                 self.end(taken, True)
         self.work = None
 
-    def end(self, taken: Sequence["Waiting"], is_stored: bool) -> None:
+    def end(self, taken: Sequence["WaitingObject"], is_stored: bool) -> None:
         for one in taken:
             one.end(is_stored)
 
@@ -182,7 +182,7 @@ class SpoolQueue:
         self.thread.shutdown(wait=False)
 
 
-class Waiting:
+class WaitingObject:
     """An object, and who waits until it is durable, for so long at most."""
 
     __slots__ = ("said", "then", "timer", "is_over")
