@@ -26,7 +26,7 @@ use Rattle.bridge_turns.specs.declared.link.Link.{Link}
 use Rattle.bridge_turns.specs.declared.link.Link.TheVariants.{Away, Reading, InLine}
 use Rattle.bridge_turns.specs.Partitions.{PartitionState, Outcome, outcome_of, says, with_bridge, with_link, news, gone}
 use Rattle.bridge_turns.specs.Turns as turns
-use Rattle.bridge_turns.specs.Laws.{IsMade, Stands, carried, AreOfMade, Does, went}
+use Rattle.bridge_turns.specs.Laws.{IsMade, Stands, Does, went}
 use Rattle.bridge_turns.proofs.Ways.{places-append, AreQuiet, nothing-quiet, says-quiet, stays, happens, joined, no-replies}
 use Rattle.bridge_turns.proofs.Releasing.{releases-way, serving-made}
 use Rattle.bridge_turns.proofs.Standings.{stands-told, stands-called}
@@ -51,10 +51,6 @@ pub either : (name : Word) (old one other : Outcome) (goes : List Held) (world :
     → (test ≡ false → Does name old other goes world) → Does name old (if test then one else other) goes world
 either name old one other goes world true left right = left refl
 either name old one other goes world false left right = right refl
-
-act-quiet : (act : Act) → ((shard : ℕ) (journal : List Text) → carried shard act journal ≡ journal)
-    → ((world : World) → AreOfMade world (act ∷ [])) → AreQuiet (act ∷ [])
-act-quiet act carry make = record { carry = carry; make = make }
 
 pub ready-quiet : AreQuiet (Ready ∷ [])
 ready-quiet = record { carry = λ shard journal. refl; make = λ world. (tt, tt) }
