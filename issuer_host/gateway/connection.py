@@ -9,6 +9,7 @@ from issuer_host.gateway.frames import BadFrame, FrameBuffer, KEEP_ALIVES_A_SECO
 from issuer_host.gateway.handling import Handling
 from issuer_host.gateway.log import Limited
 from issuer_host.gateway.message import Codec, Message, Unreadable, Unwritable
+from issuer_host.gateway.pending_logs import PendingLogs
 from issuer_host.gateway.talk import Talk
 
 if TYPE_CHECKING:
@@ -34,6 +35,7 @@ class ConnectionOwner(Protocol):
     is_stopping: bool
     limited: Limited
     handling: Handling
+    logs: PendingLogs
 
     @property
     def limits(self) -> ConnectionLimits:
@@ -202,6 +204,7 @@ class Connection(asyncio.BufferedProtocol):
     def send(self) -> None:
         """Writes all responses of a moment at once."""
         if self.transport is not None and self.unsent:
+            self.owner.logs.write()
             self.transport.write(b"".join(self.unsent))
         self.unsent.clear()
         self.close_if_answered()

@@ -18,6 +18,7 @@ from issuer_host.gateway.handling import Handling
 from issuer_host.gateway.log import Limited, NAME, tell
 from issuer_host.gateway.message import Codec
 from issuer_host.gateway.order_router import OrderRouter
+from issuer_host.gateway.pending_logs import PendingLogs
 from issuer_host.gateway.port import Port
 from issuer_host.gateway.shares import shares_of
 from issuer_host.gateway.traffic import TrafficHost, Traffic
@@ -129,6 +130,7 @@ class Gateway:
         self.servers: list[Beside] = []
         # Opens links to peers that are dialled.
         self.dialler = Dialler(loop, self.dialled, self.figures, None)
+        self.logs = PendingLogs(loop)
         self.connections: set[Connection] = set()
         # Connections that have more messages, in the order in which they came to wait.
         self.waiting: dict[Connection, None] = {}

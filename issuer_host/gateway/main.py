@@ -112,7 +112,7 @@ def pipe_hosts(gateway: Gateway, options: argparse.Namespace) -> list[Partition]
         command = serving_command(config, journal, options.callers, start)
         name = f"{NAME}: partition {number}"
         gateway.journals.append(journal)
-        settings = HostSettings(command, journal, name, options.window, is_batched=True)
+        settings = HostSettings(command, journal, name, options.window, is_batched=True, log_later=gateway.logs.later)
         found.append(PipeHost(gateway.loop, settings, gateway.traffic, gateway.figures.of_host(number, journal)))
     gateway.orders = OrderRouter(gateway.loop, options.orders, found)
     return [*found]

@@ -1,5 +1,5 @@
 """A partition's host with the lines that are put to it, and what its journals say of commands and statuses."""
-from collections.abc import Sequence
+from collections.abc import Callable, Sequence
 from typing import NamedTuple, Optional, Protocol
 
 from issuer_host.facts.proof import ProgramIdentity
@@ -22,6 +22,8 @@ class HostSettings(NamedTuple):
     orders: str = ""
     # Whether lines are written once for all that come in a moment.
     is_batched: bool = False
+    # Has the log written in a moment, before an answer leaves; None if it is written line by line.
+    log_later: Optional[Callable[[Action], object]] = None
 
 
 class HostUser(Protocol):

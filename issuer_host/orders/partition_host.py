@@ -94,9 +94,7 @@ class PartitionHost:
         self.loop, self.figures = loop, figures
         self.requester, self.keeper = requester, keeper
         self.retries = RetryPolicy()
-        # (an answer of the gateway leaves a moment later, once its line is in the log)
-        later = loop.add_callback_threadsafe if settings.is_batched else None
-        self.audit = Audit(settings.journal, settings.name, later=later)
+        self.audit = Audit(settings.journal, settings.name, later=settings.log_later)
         self.hosting = LineHost(loop, settings, self, self, figures, pacer)
         notes = file or WorkFile(settings.journal, settings.name)
         self.works = CardWorks(loop, self.hosting, notes, self.retries, self.work_answered, self.release)
@@ -179,6 +177,9 @@ class PartitionHost:
 
     def work_answered(self, work: Work, line: str, text: str) -> None:
         self.audit.answered(work.by, line, work.pan, text, work.uid, work.number)
+        if work.uid is not None:
+            # (the reply to an order leaves at once)
+            self.audit.flush()
 
     # The host
 
