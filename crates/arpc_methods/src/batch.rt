@@ -1,6 +1,7 @@
 //! Answers whose issuer authentication data are made together.
-ghost use Rattle.std.specs.Prelude.{◌≡◌, ◌<◌, [], length, slice_get, Some, IfSome};
-ghost use Rattle.arpc_methods.specs.Batch.{with_answer};
+ghost use Rattle.std.specs.Prelude.{◌≡◌, ◌↔◌, ◌<◌, ◌≤◌, length, slice_get, Some, IfSome, IsSome};
+ghost use Rattle.arpc_methods.specs.Batch.{no_answers, with_answer};
+ghost use Rattle.arpc_methods.specs.declared.batch.TheConstants.{FEWEST_IN_LANES};
 
 use crate::ahead::{AnswerParts, MadeAhead, arpc_blocks};
 use arrayvec::ArrayVec;
@@ -9,11 +10,12 @@ use issuer_base::Method;
 use std::marker::Model;
 
 /// The fewest answers that are worth lanes: somewhat more than where both ways take as long.
-const FEWEST_IN_LANES: usize = 48;
+pub const FEWEST_IN_LANES: usize = 48;
 
 /// Up to 128 answers under triple DES, by their indices, whose issuer authentication data are made together.
 ///
-/// A contract sees the answers, with zeros at an index without one.
+/// A contract sees the answers, with zeros at an index without one, how many there are, and for how many indices the data
+/// are made.
 #[derive(Drop)]
 pub struct AnswerBatch {
     answers: ArrayVec<AnswerParts, 128>,
@@ -26,13 +28,17 @@ pub struct AnswerBatch {
 }
 
 impl Model for AnswerBatch {
-    ghost use Rattle.std.specs.Prelude.{◌≡◌, ◌≤◌, List, length, map, take};
+    ghost use Rattle.std.specs.Prelude.{◌≡◌, ◌≤◌, length, map, take};
     ghost use Rattle.arpc_methods.specs.Ahead.{arpc_block};
-    ghost use Rattle.arpc_methods.specs.declared.ahead.AnswerParts.{AnswerParts};
+    ghost use Rattle.arpc_methods.specs.Batch.{Batch};
 
-    ghost Value = { List AnswerParts };
+    ghost Value = { Batch };
 
-    ghost view = { λ batch. batch.answers.items };
+    ghost view = { λ batch. record {
+      answers = batch.answers.items;
+      count = batch.count;
+      made = length batch.blocks.items;
+    } };
 
     ghost invariant = { λ batch. (batch.count ≤ length batch.answers.items)
         × (batch.blocks.items ≡ take (length batch.blocks.items) (map arpc_block batch.answers.items)) };
@@ -41,7 +47,7 @@ impl Model for AnswerBatch {
 impl AnswerBatch {
     /// No answers.
     pub fn new() -> AnswerBatch
-        ensures { result ≡ [] }
+        ensures { result ≡ no_answers }
     {
         AnswerBatch {
             answers: ArrayVec::new(),
@@ -52,7 +58,7 @@ impl AnswerBatch {
 
     /// Adds the answer of the next index, or that there is none.
     pub fn add(&mut self, answer: Option<AnswerParts>)
-        requires { length self.old < 128 }
+        requires { length self.old.answers < 128 }
         ensures { self.new ≡ with_answer answer self.old }
     {
         match answer {
@@ -64,9 +70,12 @@ impl AnswerBatch {
         }
     }
 
-    /// Makes the issuer authentication data of all, in lanes, if there are enough answers for that.
+    /// Makes the issuer authentication data of all, in lanes, if there are enough answers for that: [`FEWEST_IN_LANES`].
     pub fn make(&mut self)
-        ensures { self.new ≡ self.old }
+        ensures answers { self.new.answers ≡ self.old.answers }
+        ensures count { self.new.count ≡ self.old.count }
+        ensures made { FEWEST_IN_LANES ≤ self.old.count → self.new.made ≡ length self.old.answers }
+        ensures few { self.old.count < FEWEST_IN_LANES → self.new.made ≡ self.old.made }
     {
         if self.count >= FEWEST_IN_LANES {
             self.blocks = arpc_blocks(self.answers.as_slice());
@@ -75,7 +84,8 @@ impl AnswerBatch {
 
     /// The issuer authentication data of the answer with this index, if they were made.
     pub fn get(&self, index: usize) -> Option<MadeAhead>
-        ensures { IfSome result (λ made. slice_get self.now index ≡ Some made.parts) }
+        ensures made { IsSome result ↔ (index < self.now.made) }
+        ensures parts { IfSome result (λ made. slice_get self.now.answers index ≡ Some made.parts) }
     {
         let block = self.blocks.as_slice().get(index)?;
         Some(MadeAhead {
@@ -86,7 +96,7 @@ impl AnswerBatch {
 
     /// Removes all.
     pub fn clear(&mut self)
-        ensures { self.new ≡ [] }
+        ensures { self.new ≡ no_answers }
     {
         self.answers.clear();
         self.count = 0;

@@ -12,7 +12,7 @@ ghost use Rattle.arpc_methods.specs.Arpc.{eight_of, method1, method2, value91};
 use aes_cipher::Aes;
 pub use ahead::{AnswerParts, MadeAhead};
 use arrayvec::ArrayVec;
-pub use batch::AnswerBatch;
+pub use batch::{AnswerBatch, FEWEST_IN_LANES};
 use des_block::{Key16, Tdes};
 use issuer_base::{Method, Suite};
 use key_derive::{MacKey, first_half, with_zeros};

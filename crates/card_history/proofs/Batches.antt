@@ -13,10 +13,6 @@ use Rattle.card_history.specs.Scripts.{Scripts, undone, in_flight, with_newest, 
 use Rattle.card_history.proofs.ScriptSteps.{with_newest-queue, IsWithin, with_newest-within}
 
 module _ (request : Request) (scripts : Scripts) where
-  -- no commands go with the reply on a counter that isn't the newest
-  pub batch_of-old : is_newest request.atc scripts.hi ≡ false → batch_of request scripts ≡ []
-  batch_of-old old = cond-false (is_newest request.atc scripts.hi) (in_flight (with_newest request scripts)) [] old
-
   -- on the newest counter the flight's commands go with it
   pub batch_of-newest : is_newest request.atc scripts.hi ≡ true → batch_of request scripts ≡ in_flight (with_newest request scripts)
   batch_of-newest newest = cond-true (is_newest request.atc scripts.hi) (in_flight (with_newest request scripts)) [] newest
@@ -30,14 +26,6 @@ module _ (request : Request) (scripts : Scripts) where
       ap (λ (flown : Option Flight). option_map_or (λ flight. take flight.size (undone after)) flown [])
       (cond-false after.halted None (Some flight) flying)
       ∙ fitting_front-front (undone after)
-
-  -- and none where the scripts are halted
-  pub in_flight-halted : (with_newest request scripts).halted ≡ true → in_flight (with_newest request scripts) ≡ []
-  in_flight-halted halted =
-      let after = with_newest request scripts in
-      let flight : Flight = record { counter = request.atc; size = length (fitting_front (undone after)) } in
-      ap (λ (flown : Option Flight). option_map_or (λ flight. take flight.size (undone after)) flown [])
-      (cond-true after.halted None (Some flight) halted)
 
 -- what flies is a front of what isn't done, whatever is queued later
 flown-front : (flown : Option Flight) (scripts : Scripts) (more : List Command) → scripts.done ≤ length scripts.queue

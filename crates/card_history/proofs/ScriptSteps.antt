@@ -1,8 +1,8 @@
 -- How one more record of a shard changes a card's scripts, and what holds of them after every history.
 use Rattle.std.proofs.Common.{◌≡◌, ℕ, ◌+◌, ◌≤◌, max, nat_lt, nat_le, ◌&&◌, ◌==◌, true, false, cond, Option, None, Some}
-use Rattle.std.proofs.Common.{List, [], ◌∷◌, ◌++◌, length, drop, refl, ap, sym, ◌∙◌, subst, inl, inr, ◌⊎◌, arith}
+use Rattle.std.proofs.Common.{List, [], ◌∷◌, ◌++◌, length, refl, ap, sym, ◌∙◌, subst, inl, inr, ◌⊎◌, arith}
 use Rattle.std.proofs.lemmas.Bool.{cond-true, cond-false, cond_both, and_parts, leb-true, ltb-true, ltb-false}
-use Rattle.std.proofs.lemmas.List.{length-append, length-drop, drop-append-le, drop-drop}
+use Rattle.std.proofs.lemmas.List.{length-append, length-drop}
 use Rattle.std.proofs.lemmas.List.Sums.{fold-append}
 use Rattle.std.proofs.lemmas.Option.{same_Some}
 use Rattle.std.specs.Option.{option_map_or}
@@ -20,7 +20,7 @@ use Rattle.script_queue.specs.ScriptTemplate.{fitting_front}
 use Rattle.script_queue.proofs.FittingFronts.{fitting_front-within}
 use Rattle.issuer_base.specs.CardNames.{CardName}
 use Rattle.card_history.specs.Records.{is_of, has_numbers, decided, greatest_atc, queue}
-use Rattle.card_history.specs.Scripts.{Scripts, no_scripts, undone, waiting, with_command, settled_by, launched, with_newest, is_newest}
+use Rattle.card_history.specs.Scripts.{Scripts, no_scripts, undone, with_command, settled_by, launched, with_newest, is_newest}
 use Rattle.card_history.specs.Scripts.{with_decision, after_record, scripts_of}
 use Rattle.card_history.proofs.OneMoreRecord.{decided-more, decided-other, greatest-more}
 use Rattle.card_history.proofs.OtherRecords.{queue-decided, queue-queued, queue-queued_other, queue-status, decided-queued, decided-status}
@@ -218,19 +218,3 @@ scripts-within card =
     every-history (λ history. IsWithin (scripts_of card history))
     (record { few_done = omega arith; few_fly = λ flight is. absurd (cc); grounded = λ halted. refl })
     (λ before entry within. subst IsWithin (sym (scripts-more card before entry)) (record-within card (scripts_of card before) entry within))
-
--- one more command waits behind the others
-pub waiting-command : (command : Command) (scripts : Scripts) → scripts.done ≤ length scripts.queue
-    → waiting (with_command command scripts)
-    ≡ record { queued = length scripts.queue + 1; undone = undone scripts ++ command ∷ [] }
-waiting-command command scripts few =
-    let longer : length (scripts.queue ++ command ∷ []) ≡ length scripts.queue + 1 = length-append scripts.queue (command ∷ []) in
-    let behind : drop scripts.done (scripts.queue ++ command ∷ []) ≡ undone scripts ++ command ∷ [] =
-    drop-append-le scripts.done scripts.queue (command ∷ []) few in
-    λ i. record { queued = longer i; undone = behind i }
-
--- after those that ran the others wait
-pub waiting-ran : (count : ℕ) (scripts : Scripts)
-    → waiting (settled_by (Ran count) scripts) ≡ record { queued = length scripts.queue; undone = drop count (undone scripts) }
-waiting-ran count scripts = ap (λ (commands : List Command). record { queued = length scripts.queue; undone = commands })
-    (sym (drop-drop count scripts.done scripts.queue))

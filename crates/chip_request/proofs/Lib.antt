@@ -16,3 +16,4 @@ pub mod DataReading
 pub mod CardReading
 pub mod LineForms
 pub mod LineLaws
+pub mod OneReading

@@ -1,5 +1,6 @@
 -- The definitions that the contracts of this crate cite.
 pub mod Fields
+pub mod Objects
 pub mod Forms
 pub mod HexDigits
 pub mod Reading

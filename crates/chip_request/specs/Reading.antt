@@ -1,7 +1,8 @@
 -- The request in chip data, or their first fault.
 use Rattle.std.specs.Prelude.{ℕ, ◌+◌, ◌*◌, Bool, true, false, not, List, [], ◌∷◌, replicate, slice_index, Option, Some, None, Result, Ok, Err, ◌==◌}
 use Rattle.std.specs.Prelude.{if◌then◌else◌}
-use Rattle.tlv_objects.specs.Tlv.{TlvObject, objects_of}
+use Rattle.tlv_objects.specs.Tlv.{TlvObject}
+use Rattle.chip_request.specs.Objects.{objects_of}
 use Rattle.issuer_base.specs.declared.request.Parts.{Parts}
 use Rattle.chip_request.specs.declared.reading.RequestFault.{RequestFault}
 use Rattle.chip_request.specs.declared.reading.RequestFault.TheVariants.{BadTlv, Missing, BadField, Repeated}

@@ -8,7 +8,7 @@ use Rattle.card_history.specs.Records.{card_of}
 use Rattle.chip_request.specs.declared.reading.RequestFault.{RequestFault}
 use Rattle.chip_request.specs.declared.line.LineKind.{LineKind}
 use Rattle.chip_request.specs.declared.line.LineKind.TheVariants.{Ask, Queue, Set}
-use Rattle.chip_request.specs.LineParts.{line_of}
+use Rattle.line_checks.specs.Parsed.{line_of}
 use Rattle.chip_request.specs.Reading.{request_of}
 use Rattle.key_derive.specs.declared.card.CardKeys.{CardKeys}
 use Rattle.issuer_setup.specs.CardList.{number_of}

@@ -5,4 +5,3 @@ pub mod RowPartsLemmas
 pub mod FrontLemmas
 pub mod PartsLemmas
 pub mod TableLemmas
-pub mod ShardsLemmas

@@ -1,7 +1,7 @@
 -- The rows of the decision table: each one's card status update states its decision, so only the last row can be at
 -- fault, and what a configuration states is a table.
 use Rattle.std.proofs.Common.{◌≡◌, ◌+◌, ◌<◌, ◌≤◌, if◌then◌else◌, true, false, List, [], ◌∷◌, length, map, Option, Some, None, Ok, Err, codes, refl}
-use Rattle.std.proofs.Common.{ap, sym, subst, ◌∙◌, ◌&&◌, nat_le, ℕ, inl, inr, IsTrue, Result, arith}
+use Rattle.std.proofs.Common.{ap, sym, subst, ◌∙◌, ◌++◌, ◌&&◌, nat_le, ℕ, inl, inr, IsTrue, Result, arith}
 use Rattle.std.proofs.lemmas.Bool.{and_from, cases_Bool, cond-false, cond-true}
 use Rattle.std.proofs.lemmas.List.{length-map}
 use Rattle.std.specs.List.{list_all}
@@ -20,9 +20,12 @@ use Rattle.config_read.specs.declared.config.TheConstants.{MAX_CONFIG_BYTES}
 use Rattle.config_read.specs.Configuration.{configured, object_in, setup_in, where_json}
 use Rattle.config_read.specs.Json.{json_of}
 use Rattle.config_read.specs.Elements.{row_in}
-use Rattle.config_read.specs.Parts.{◌>>=◌, cards_in, front, in_front, keys_in, no_conflict, part_elements, said_by, shards_in, silent_at, table_in, unless_broken, where_last_takes_all}
+use Rattle.config_read.specs.Parts.{◌>>=◌, cards_in, follows_any, keys_in, part_elements, said_by, shards_in, table_in, where_last_takes_all}
+use Rattle.config_read.specs.Front.{front, in_front}
+use Rattle.issuer_setup.specs.Elements.{AreSound, IsParsed}
+use Rattle.issuer_setup.proofs.Elements.{is_parsed}
 use Rattle.config_read.proofs.FrontLemmas.{length-front-le}
-use Rattle.config_read.proofs.PartsLemmas.{said_by-broken, said_by-whole, silent-place, whole-place}
+use Rattle.config_read.proofs.PartsLemmas.{no_conflict, said_by-broken, said_by-whole, silent-place, whole-place}
 use Rattle.config_read.proofs.RowPartsLemmas.{row_in-tells}
 
 -- ---- which rows are a table
@@ -49,21 +52,21 @@ table_from-front elements rows found = table_from-told rows (ap (list_all tells_
 
 module _ (value : Data) (elements : List Value) (rows : List TableRow)
     (is : part_elements Table (codes "table") MAX_TABLE_ROWS value ≡ Ok (map view elements)) (found : rows ≡ front row_in (map view elements)) where
-  table_in-elements : table_in value ≡ (said_by Table row_in no_conflict (map view elements) >>= where_last_takes_all)
-  table_in-elements = ap (λ these. these >>= said_by Table row_in no_conflict >>= where_last_takes_all) is
+  table_in-elements : table_in value ≡ (said_by Table row_in follows_any (map view elements) >>= where_last_takes_all)
+  table_in-elements = ap (λ these. these >>= said_by Table row_in follows_any >>= where_last_takes_all) is
 
   -- an element that says nothing
   pub table_in-silent : length rows < length elements → table_in value ≡ Err (At Table (length rows + 1))
   table_in-silent fewer =
       table_in-elements
       ∙ ap (λ said. said >>= where_last_takes_all)
-      (said_by-broken Table row_in no_conflict elements rows (length rows) found (silent-place None (length rows) (length elements) refl fewer))
+      (said_by-broken Table row_in follows_any None elements rows (length rows) found (no_conflict [] rows) (silent-place None (length rows) (length elements) refl fewer))
 
   table_in-rows : length elements ≤ length rows → table_in value ≡ where_last_takes_all rows
   table_in-rows all =
       table_in-elements
       ∙ ap (λ said. said >>= where_last_takes_all)
-      (said_by-whole Table row_in no_conflict elements rows found (whole-place None (length rows) (length elements) refl all))
+      (said_by-whole Table row_in follows_any None elements rows found (no_conflict [] rows) (whole-place None (length rows) (length elements) refl all))
 
   -- rows that are a table
   pub table_in-whole : (table : List TableRow) → length elements ≤ length rows → Some table ≡ table_from rows → table_in value ≡ Ok table
@@ -110,28 +113,37 @@ front-table found rows told is =
       | inr more ↦ absurd (let no : Err (At Table (length found)) ≡ Ok rows = sym (cond-false (ends_in_all found) _ _ more) ∙ is in cc)
     ]
 
-elements-table : (elements : List Data) (rows : List TableRow) → (said_by Table row_in no_conflict elements >>= where_last_takes_all) ≡ Ok rows
-    → IsTrue (is_table rows)
-elements-table elements rows =
-    elim (silent_at row_in elements) as
-    (λ silent. (unless_broken Table silent (front row_in elements) >>= where_last_takes_all) ≡ Ok rows → IsTrue (is_table rows)) [
-      | None ↦ front-table (front row_in elements) rows (front-told elements)
-      | Some place ↦ λ is. absurd (cc)
-    ]
-
-table_in-table : (value : Data) (rows : List TableRow) → table_in value ≡ Ok rows → IsTrue (is_table rows)
-table_in-table value rows =
-    elim (part_elements Table (codes "table") MAX_TABLE_ROWS value) as
-    (λ these. (these >>= said_by Table row_in no_conflict >>= where_last_takes_all) ≡ Ok rows → IsTrue (is_table rows)) [
-      | Ok elements ↦ elements-table elements rows
-      | Err fault ↦ λ is. absurd (cc)
-    ]
-
 -- the first step gave a value, and the second is the result
 first-gave : {A B : Type 0} (first : Result A ConfigFault) (next : A → Result B ConfigFault) (result : B) → (first >>= next) ≡ Ok result
     → (value : A) × (first ≡ Ok value) × (next value ≡ Ok result)
 first-gave (Ok value) next result is = (value, refl, is)
 first-gave (Err fault) next result is = absurd (cc)
+
+sound-told : (before : List TableRow) (elements : List Data) (rows : List TableRow) → AreSound row_in follows_any before elements rows
+    → list_all tells_approval rows ≡ true
+sound-told before [] [] held = refl
+sound-told before [] (row ∷ rows) held = absurd held
+sound-told before (element ∷ elements) [] held = absurd held
+sound-told before (element ∷ elements) (row ∷ rows) held =
+    let told = subst (λ (said : Option TableRow). IfSome said (λ row. tells_approval row ≡ true)) held.0 (row_in-tells element) in
+    let rest = sound-told (before ++ row ∷ []) elements rows held.2 in
+    and_from _ _ told rest
+
+elements-table : (elements : List Data) (rows : List TableRow) → (said_by Table row_in follows_any elements >>= where_last_takes_all) ≡ Ok rows
+    → IsTrue (is_table rows)
+elements-table elements rows is =
+    let found = first-gave (said_by Table row_in follows_any elements) where_last_takes_all rows is in
+    let fault : ℕ → ConfigFault = λ place. At Table (place + 1) in
+    let sound = subst (IsParsed row_in follows_any fault [] elements) found.1 (is_parsed row_in follows_any fault [] elements) in
+    front-table found.0 rows (sound-told [] elements found.0 sound) found.2
+
+table_in-table : (value : Data) (rows : List TableRow) → table_in value ≡ Ok rows → IsTrue (is_table rows)
+table_in-table value rows =
+    elim (part_elements Table (codes "table") MAX_TABLE_ROWS value) as
+    (λ these. (these >>= said_by Table row_in follows_any >>= where_last_takes_all) ≡ Ok rows → IsTrue (is_table rows)) [
+      | Ok elements ↦ elements-table elements rows
+      | Err fault ↦ λ is. absurd (cc)
+    ]
 
 setup-table : (value : Data) (issuer : Setup) → setup_in value ≡ Ok issuer → IsTrue (is_table issuer.table)
 setup-table value issuer is =

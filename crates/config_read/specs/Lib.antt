@@ -3,6 +3,7 @@ pub mod Json
 pub mod Words
 pub mod Elements
 pub mod RowParts
+pub mod Front
 pub mod Parts
 pub mod Configuration
 pub mod Faults

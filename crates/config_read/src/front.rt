@@ -2,7 +2,7 @@
 ghost use Rattle.std.specs.Prelude.{◌≡◌, ◌≤◌, length, map, IfOk};
 ghost use Rattle.serde_json.specs.View.{view};
 ghost use Rattle.config_read.specs.Elements.{card_in, key_set_in, row_in};
-ghost use Rattle.config_read.specs.Parts.{front};
+ghost use Rattle.config_read.specs.Front.{front};
 
 use crate::elements::{read_card, read_key_set, read_row};
 use arrayvec::ArrayVec;

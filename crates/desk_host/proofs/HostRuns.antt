@@ -9,7 +9,7 @@ use Rattle.shard_book.specs.declared.shard.Shard.{Shard}
 use Rattle.host_loading.specs.Books.{ShardBook}
 use Rattle.host_loading.specs.Hosts.{Stand}
 use Rattle.one_caller.specs.OneHistory.{AreRecorded}
-use Rattle.one_caller.specs.Runs.{HasRun, LeaveBetween}
+use Rattle.one_caller.specs.Runs.{HasRun, LeavesAnswering}
 use Rattle.one_caller.specs.Turns.{Turn}
 use Rattle.host_loading.proofs.Places.{read-within}
 use Rattle.one_caller.proofs.Running.{has_run-more}
@@ -22,7 +22,8 @@ module _ {S : Type 0} {G : Ghosts S} where
       → HasRun issuer loaded first lines answers now books
       → ((books : List ShardBook) → Stand issuer now books
       → (after : List ShardBook) × Stand issuer next after × Turn issuer books (reading issuer line) answer after)
-      → ((books : List ShardBook) → Stand issuer now books → LeaveBetween issuer books books now next)
+      → ((books : List ShardBook) → Stand issuer now books
+      → LeavesAnswering issuer (reading issuer line) answer books now next)
       → (after : List ShardBook) × HasRun issuer loaded first (lines ++ line ∷ []) (answers ++ answer ∷ []) next after
   run-line issuer loaded first lines answers now next books line answer run turn leaves =
       let t = turn books run.stand in (

@@ -2,17 +2,20 @@
 use Rattle.std.proofs.Common.{◌≡◌, ℕ, List, length, Some, sym, ◌∙◌, subst, arith}
 use Rattle.std.specs.Prelude.{slice_get, map, IfSome}
 use Rattle.std.proofs.lemmas.Option.{slice_get_within}
+use Rattle.issuer_base.specs.declared.answer.Answer.{Answer}
 use Rattle.issuer_base.specs.declared.outside.store.Store.{Ghosts}
 use Rattle.issuer_setup.specs.IssuerSetup.{Setup}
 use Rattle.shard_book.specs.declared.shard.Shard.{Shard}
 use Rattle.shard_book.specs.Shards.{store_in}
 use Rattle.host_loading.specs.Books.{ShardBook}
 use Rattle.host_loading.specs.Hosts.{AreShards, Stand}
-use Rattle.one_caller.specs.Runs.{LeaveBetween}
+use Rattle.one_caller.specs.OwnTails.{HaveOwnTails}
+use Rattle.one_caller.specs.Runs.{HoldsOwnTail, LeaveBetween}
+use Rattle.one_caller.proofs.OwnTails.{holds-own_tail}
 use Rattle.one_caller.proofs.Running.{Begins, run-none, holds-journal}
 use Rattle.desk_host.specs.SeenStores.{SeenStore, SeenJournals, store_seen, journals_seen, Logged}
 use Rattle.desk_host.specs.Journals.{old_name, journal_name, IsReady}
-use Rattle.desk_host.specs.Kept.{IsRunImage, KeepsJournal, KeepJournals}
+use Rattle.desk_host.specs.Kept.{IsRunImage, KeepsJournal, KeepJournals, HoldOwnTails}
 use Rattle.desk_host.proofs.CrashSteps.{crash-run, crash-since, leaves-now, stays-opened}
 use Rattle.desk_host.proofs.SeenSteps.{at-place, journal-held, mapped, seen-at, seen-store}
 
@@ -94,3 +97,13 @@ module _ {S : Type 0} {G : Ghosts S} where
             last_are = stand.count_is ∙ after.count_is;
             each = keeps-journal;
           })
+
+  -- and each store what its shard has in doubt
+  pub hold-own_tails : (issuer : Setup) (lines : List (List ℕ)) (answers : List Answer) (olds : List S)
+      (now : List (Shard S G)) (last : List ShardBook) → Stand issuer now last
+      → HaveOwnTails issuer lines answers last now
+      → HoldOwnTails issuer lines answers (journals_seen G olds (map store_in now)) last
+  hold-own_tails issuer lines answers olds now last stand own shard is seen is_at seen_at =
+      let here = seen-at now shard seen seen_at in
+      subst (λ (s : SeenStore). HoldsOwnTail issuer shard lines answers is.history s.bytes s.disk) here.2
+      (holds-own_tail issuer lines answers last now stand own shard here.0 is here.1 is_at)

@@ -1,13 +1,14 @@
 -- What a run makes of the journals: what they were, what they are, and what a crash since they were opened may leave.
 use Rattle.std.specs.Prelude.{◌≡◌, ◌⊎◌, ℕ, List, length, slice_get, Option, Some, IfSome}
 use Rattle.issuer_base.specs.Stores.{Disk, MayLeave, Moment}
+use Rattle.issuer_base.specs.declared.answer.Answer.{Answer}
 use Rattle.issuer_base.specs.declared.entry.Entry.{Entry}
 use Rattle.issuer_setup.specs.IssuerSetup.{Setup}
 use Rattle.shard_book.specs.Grounds.{grounds_now, IsImageOf}
 use Rattle.shard_book.specs.Histories.{IsImageBetween}
 use Rattle.shard_book.specs.Shards.{IsJournalOf, IsLoadImage}
 use Rattle.host_loading.specs.Books.{ShardBook}
-use Rattle.one_caller.specs.Runs.{HoldsJournal}
+use Rattle.one_caller.specs.Runs.{HoldsJournal, HoldsOwnTail}
 use Rattle.desk_host.specs.SeenStores.{Logged, SeenStore, SeenJournals}
 use Rattle.desk_host.specs.Journals.{old_name, journal_name}
 use Rattle.desk_host.specs.Left.{CrashSince, StaysAsOpened}
@@ -55,3 +56,11 @@ pub record KeepJournals (issuer : Setup) (prefix : List ℕ) (logs : Logged) (jo
       → slice_get first shard ≡ Some was → slice_get last shard ≡ Some is
       → slice_get journals.olds shard ≡ Some old → slice_get journals.stores shard ≡ Some store
       → KeepsJournal issuer shard (logs (old_name prefix shard)) (logs (journal_name prefix shard)) was is old store
+
+-- the journal of each shard has the text of its last history and nothing more, or a prefix of the record of one of these
+-- lines, which was answered that the store failed
+abbrev pub HoldOwnTails : Setup → List (List ℕ) → List Answer → SeenJournals → List ShardBook → Type 0
+HoldOwnTails issuer lines answers journals last =
+    (shard : ℕ) (is : ShardBook) (store : SeenStore)
+    → slice_get last shard ≡ Some is → slice_get journals.stores shard ≡ Some store
+    → HoldsOwnTail issuer shard lines answers is.history store.bytes store.disk

@@ -1,5 +1,5 @@
 -- Laws of sequences of calls: of fault counts, of a piece written in parts, and of an input read in parts.
-use Rattle.std.proofs.Common.{◌≡◌, ℕ, ◌+◌, ◌<◌, ◌≤◌, Bool, true, false, ◌||◌, List, [], ◌++◌, length}
+use Rattle.std.proofs.Common.{◌≡◌, ℕ, ◌+◌, ◌<◌, ◌≤◌, Bool, true, false, ◌||◌, List, ◌++◌, length}
 use Rattle.std.proofs.Common.{Option, None, Some, Result, Ok, Err, take, drop, refl, subst, sym, ap, ◌∙◌, arith}
 use Rattle.std.proofs.Math.Seq.{take-add, take-append-add}
 use Rattle.std.proofs.lemmas.List.{append-nil, take-append-le, length-append}
@@ -34,11 +34,6 @@ CountsFaults-then a b c false true p q =
 CountsFaults-then a b c false false p q =
     record { below = λ h. q.below (p.below h); never_falls = omega arith; counted = q.counted ∙ p.counted }
 
--- where the count did not rise, no call failed
-pub CountsFaults-none_failed : (a b : ℕ) (failed : Bool) → CountsFaults a b failed → (Rose a b → ⊥) → failed ≡ false
-CountsFaults-none_failed a b true p stood = absurd (stood p.counted)
-CountsFaults-none_failed a b false p stood = refl
-
 -- ---- what was written
 
 -- a front of the piece was appended, and then a front of what was left of it
@@ -64,12 +59,6 @@ WritesAll-after a b c (Ok x) xs ys first second = Appends-trans a b c xs ys firs
 WritesAll-after a b c (Err e) xs ys first second = AppendsFront-after a b c xs ys first second
 
 -- ---- what an input gave
-
--- what was read so far is a front of what the input had left
-pub Tells-front : (was now : Option (List ℕ)) (bytes : List ℕ) → Consumes was now bytes → (rest : List ℕ) × Tells was (bytes ++ rest)
-Tells-front None now bytes read = ([], tt)
-Tells-front (Some file) None bytes read = absurd read
-Tells-front (Some file) (Some rest) bytes read = (rest, read)
 
 -- what was read to the end is all that the input had left
 pub Tells-whole : (was now : Option (List ℕ)) (bytes : List ℕ) → Consumes was now bytes → IsAtEnd now → Tells was bytes

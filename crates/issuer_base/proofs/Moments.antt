@@ -2,9 +2,9 @@
 use Rattle.std.proofs.Common.{◌≡◌, ◌⊎◌, ℕ, ◌+◌, ◌-◌, ◌≤◌, List, [], ◌∷◌, ◌++◌, length, take, drop, sym, ap, subst, ◌∙◌}
 use Rattle.std.proofs.Common.{inl, inr, ⊎_elim, All, Contains, arith, append_assoc, append-nil, length-append, length-take}
 use Rattle.std.proofs.Math.Seq.{drop-append_seam, take-append-add}
-use Rattle.std.proofs.lemmas.List.{drop-append-le, length_push, take_all}
+use Rattle.std.proofs.lemmas.List.{drop-append-le, length_push}
 use Rattle.std.proofs.lemmas.List.Elements.{All-nil, All-cons, All-append, All-weaker, All-contains}
-use Rattle.std.proofs.lemmas.List.Elements.{Contains-append_left, Contains-append_right, Contains-append_cases}
+use Rattle.std.proofs.lemmas.List.Elements.{Contains-append_right, Contains-append_cases}
 use Rattle.issuer_base.specs.Stores.{Moment, Disk, GoesOn, LeavesOnly, LeavesSince, MayLeave, MayLeaveSince, Passes, present, timeline}
 
 -- ---- many calls in a row
@@ -73,23 +73,6 @@ module _ (old new : Disk) (on : GoesOn old new) (number : ℕ) (earlier : number
       (λ during. inr (left.0, subst (λ l. Contains l left.0) at_start (Contains-append_right (old.now ∷ []) on.added left.0 during), left.2))
       (Contains-append_cases (drop number (timeline old)) on.added left.0 (subst (λ l. Contains l left.0) since left.1))
 
-  -- what a crash might leave before the calls, it may leave after them
-  pub MayLeaveSince-before : (image : List ℕ) → MayLeaveSince number old image → MayLeaveSince number new image
-  MayLeaveSince-before image left =
-      (left.0, subst (λ l. Contains l left.0) (sym since) (Contains-append_left (drop number (timeline old)) on.added left.0 left.1), left.2)
-
-  -- what a crash since the start of the calls may leave, one since an earlier moment may leave
-  pub MayLeaveSince-during : (image : List ℕ) → MayLeaveSince (present old) new image → MayLeaveSince number new image
-  MayLeaveSince-during image left =
-      let starts = drop-append-le number old.past (old.now ∷ []) earlier in
-      let whole : drop number (timeline new) ≡ drop number old.past ++ (old.now ∷ on.added) =
-      since ∙ ap (λ l. l ++ on.added) starts ∙ append_assoc (drop number old.past) (old.now ∷ []) on.added in
-      let during = subst (λ l. Contains l left.0) (since_start old new on) left.1 in (
-        left.0,
-        subst (λ l. Contains l left.0) (sym whole) (Contains-append_right (drop number old.past) (old.now ∷ on.added) left.0 during),
-        left.2,
-      )
-
   -- what is true of each image before the calls, and of each that they may leave, is true after them
   pub LeavesSince-then : (P : List ℕ → Type 0) → LeavesSince P number old → LeavesSince P (present old) new → LeavesSince P number new
   LeavesSince-then P first second =
@@ -122,12 +105,6 @@ LeavesOnly-passes P Q old new leaves first passes =
     }
 
 -- ---- what a crash at one moment may leave
-
--- where all bytes are safe a crash leaves all of them
-pub MayLeave-all_safe : (moment : Moment) (image : List ℕ) → moment.safe ≡ length moment.bytes → MayLeave moment image → image ≡ moment.bytes
-MayLeave-all_safe moment image safe left =
-    let enough : length moment.bytes ≤ length image = let has = left.has_safe in omega arith in
-    left.is_front ∙ take_all (length image) moment.bytes enough
 
 -- an image is no longer than the bytes
 pub MayLeave-length : (moment : Moment) (image : List ℕ) → MayLeave moment image → length image ≤ length moment.bytes

@@ -9,3 +9,4 @@ pub mod Sink
 pub mod Desk
 pub mod Stores
 pub mod CardNames
+pub mod TheOnly

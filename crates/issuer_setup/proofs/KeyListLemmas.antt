@@ -1,8 +1,7 @@
 -- What the definitions of an issuer's key sets state: which lists are valid, and which key set an index names.
 use Rattle.std.proofs.Common.{◌≡◌, ◌≢◌, ℕ, zero, suc, ◌+◌, ◌<◌, ◌≤◌, ◌==◌, if◌then◌else◌, true, false, ◌||◌, List, [], ◌∷◌, ◌++◌, length, get_or}
-use Rattle.std.proofs.Common.{take, drop, ap, sym, ◌∙◌, subst, inl, inr, Option, None, Some, append-nil, append_assoc, length-append, arith}
+use Rattle.std.proofs.Common.{ap, sym, ◌∙◌, subst, inl, inr, Option, None, Some, append-nil, append_assoc, length-append, arith}
 use Rattle.std.proofs.lemmas.Bool.{eqb-false, ltb-true, ltb-false, cond-true, cond-false, cases_Bool}
-use Rattle.std.proofs.lemmas.List.{at_drop_more, at_drop_all, take_more, length-take-le}
 use Rattle.std.proofs.lemmas.List.Folds.{find_at}
 use Rattle.std.proofs.lemmas.List.Quantifiers.{all_pairs_push}
 use Rattle.std.proofs.lemmas.Option.{IfSome_then, cond_some, slice_get_past}
@@ -12,28 +11,6 @@ use Rattle.std.specs.Prelude.{nat_lt}
 use Rattle.issuer_base.specs.declared.limits.TheConstants.{MAX_KEY_SETS}
 use Rattle.key_derive.specs.declared.card.KeySet.{KeySet}
 use Rattle.issuer_setup.specs.KeyList.{has_dki, key_of, first_repeat, bad_key, AreKeys}
-
--- one more key set that repeats no index
-pub first_repeat-more : (keys : List KeySet) (i : ℕ) (set : KeySet) → i < length keys → set ≡ get_or keys i set
-    → list_any (has_dki set.dki) (take i keys) ≡ false → first_repeat (take i keys) (drop i keys) ≡ first_repeat (take (i + 1) keys) (drop (i + 1) keys)
-first_repeat-more keys i set below read new =
-    at_drop_more (first_repeat (take i keys)) keys i set below
-    ∙ ap (λ (first : KeySet). first_repeat (take i keys) (first ∷ drop (i + 1) keys)) (sym read)
-    ∙ cond-false (list_any (has_dki set.dki) (take i keys)) _ _ new
-    ∙ ap (λ before. first_repeat before (drop (i + 1) keys)) (ap (λ (last : KeySet). take i keys ++ last ∷ []) read ∙ sym (take_more keys i set below))
-
--- the first that repeats one
-pub first_repeat-here : (keys : List KeySet) (i : ℕ) (set : KeySet) → i < length keys → set ≡ get_or keys i set
-    → list_any (has_dki set.dki) (take i keys) ≡ true → first_repeat (take i keys) (drop i keys) ≡ Some i
-first_repeat-here keys i set below read repeated =
-    at_drop_more (first_repeat (take i keys)) keys i set below
-    ∙ ap (λ (first : KeySet). first_repeat (take i keys) (first ∷ drop (i + 1) keys)) (sym read)
-    ∙ cond-true (list_any (has_dki set.dki) (take i keys)) _ _ repeated
-    ∙ ap Some (length-take-le i keys (omega arith))
-
--- none repeats one
-pub first_repeat-all : (keys : List KeySet) (i : ℕ) → length keys ≤ i → first_repeat (take i keys) (drop i keys) ≡ None
-first_repeat-all keys i all = at_drop_all (first_repeat (take i keys)) keys i all
 
 -- no key set before has the index
 unnamed : (dki : ℕ) (before : List KeySet) → list_any (has_dki dki) before ≡ false → (k : ℕ) (d : KeySet) → k < length before

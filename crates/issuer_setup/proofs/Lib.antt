@@ -1,4 +1,5 @@
 -- The laws of this crate.
+pub mod Elements
 pub mod Names
 pub mod KeyListLemmas
 pub mod CardListLemmas

@@ -21,7 +21,3 @@ are_shards-range shards valid =
 below : (shards : ℕ) (found : Option ℕ) → 1 ≤ shards → option_map_or (λ number. number % shards) found 0 < shards
 below shards None some = omega arith
 below shards (Some number) some = omega arith
-
--- the shard of a name, known or not, is one of the shards
-pub shard_of-below : (issuer : Setup) (name : CardName) → are_shards issuer.shards ≡ true → shard_of issuer name < issuer.shards
-shard_of-below issuer name valid = below issuer.shards (number_of name issuer.cards) (are_shards-range issuer.shards valid).0

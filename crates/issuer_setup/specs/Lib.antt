@@ -1,4 +1,5 @@
 -- The definitions that the contracts of this crate cite.
+pub mod Elements
 pub mod Shards
 pub mod KeyList
 pub mod CardList

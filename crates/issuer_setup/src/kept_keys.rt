@@ -1,5 +1,5 @@
 //! The master keys of an issuer's cards, derived on demand. The key schedules of those for cryptograms can be cached.
-ghost use Rattle.std.specs.Prelude.{◌≡◌, ◌+◌, ◌*◌, ◌<◌, ◌≤◌, ◌++◌, Some, length, slice_get, vec_len, vec_capacity, IfOk};
+ghost use Rattle.std.specs.Prelude.{◌≡◌, ◌+◌, ◌*◌, ◌<◌, ◌≤◌, ◌++◌, Some, length, slice_get, vec_capacity, IfOk};
 ghost use Rattle.issuer_setup.specs.KeptKeys.{pairs_of, kept_keys};
 
 use crate::card::CardInfo;

@@ -117,6 +117,9 @@ struct OwnDesk {
     config: &'static str,
     requests: Pieces,
     meeting: Arc<Meeting>,
+
+    /// How many bytes each store takes.
+    room: usize,
 }
 
 impl OwnDesk {
@@ -130,6 +133,7 @@ impl OwnDesk {
             config,
             requests,
             meeting: Arc::new(alloc, meeting)?,
+            room: 65_536,
         })
     }
 }
@@ -158,7 +162,7 @@ impl Desk for OwnDesk {
         let Ok(meeting) = Arc::try_clone(&self.meeting) else {
             return Err(DeskFault::NoMemory);
         };
-        match RoomStore::new(self.alloc, 65_536) {
+        match RoomStore::new(self.alloc, self.room) {
             Ok(store) => Ok(MeetingStore {
                 second: name.ends_with(".01.v2"),
                 meeting,
@@ -234,17 +238,43 @@ fn stops_at_a_line_too_many(rt: HostRuntime) -> Result<(), Fail> {
     Ok(())
 }
 
-/// The source returns one line a read, and the sink fails at the first answer.
+/// The source returns one line a read, and the sink fails at the first answer, with one caller and with four.
 #[test]
 fn answers_before_it_waits_for_more(rt: HostRuntime) -> Result<(), Fail> {
     let alloc = rt.alloc();
-    let desk = OwnDesk::new(alloc, CONFIG, Pieces::new("x\n", 3, 2, 10))?;
-    let mut out = Bytes::new(0);
-    let words = words_of(alloc, SERVE)?;
+    for command in [
+        SERVE,
+        "serve --config config --requests requests --journal journal --callers 4",
+    ] {
+        let desk = OwnDesk::new(alloc, CONFIG, Pieces::new("x\n", 3, 2, 10))?;
+        let mut out = Bytes::new(0);
+        let words = words_of(alloc, command)?;
+        let (status, requests, _olds, _stores) = left_by(run_over(
+            &rt, &words, desk, &mut out, &OpenGate,
+        ));
+        assert_eq!(rt; status, 4, "{command}");
+        assert_eq!(rt; requests.map(|source| source.times), Some(2), "{command}");
+    }
+    Ok(())
+}
+
+/// The source returns one line a read, and the store has no room for the record of the first.
+#[test]
+fn takes_a_feed_line_before_it_waits_for_more(rt: HostRuntime) -> Result<(), Fail> {
+    let alloc = rt.alloc();
+    let feed = Pieces::new("0 0 s 4000000000000002ffff 00 3\n", 3, 32, 10);
+    let mut desk = OwnDesk::new(alloc, CONFIG, feed)?;
+    desk.room = 16;
+    let mut out = MemorySink::new(alloc, 1_024, Vec::new(alloc))?;
+    let words = words_of(
+        alloc,
+        "standby --config config --feed requests --journal journal",
+    )?;
     let (status, requests, _olds, _stores) = left_by(run_over(
         &rt, &words, desk, &mut out, &OpenGate,
     ));
-    assert_eq!(rt; status, 4);
+    assert_eq!(rt; out.bytes(), "stop 5 0\n".as_bytes());
+    assert_eq!(rt; status, 5);
     assert_eq!(rt; requests.map(|source| source.times), Some(2));
     Ok(())
 }

@@ -120,6 +120,7 @@ module _ (config : List ℕ) (requests : RequestFile) (journal : List ℕ) (seen
           held = told-given (seen.desk.tells requests.name) left served.file given served.content;
           was_read = served.was_read;
           answered = l.answered;
+          own_tails = l.own_tails;
           printed_is = l.text_is;
         }
 

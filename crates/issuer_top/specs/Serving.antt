@@ -14,7 +14,7 @@ use Rattle.host_loading.specs.Books.{ShardBook}
 use Rattle.command_line.specs.Command.{RequestFile, IsServe}
 use Rattle.line_blocks.specs.Answered.{WasRead, AreAllLines, AreWholeLines, AreLinesBefore, AreFirstLines}
 use Rattle.line_serving.specs.Answers.{AreAnsweredBy, AnswersNone}
-use Rattle.desk_host.specs.Kept.{KeepJournals}
+use Rattle.desk_host.specs.Kept.{KeepJournals, HoldOwnTails}
 use Rattle.desk_host.specs.Lawful.{IsLawful}
 use Rattle.desk_host.specs.Left.{LeaveJournals}
 use Rattle.issuer_top.specs.InOrder.{IsInOrder}
@@ -25,7 +25,8 @@ use Rattle.issuer_top.specs.Stops.{StopsBefore}
 use Rattle.issuer_top.specs.Ways.{Ways, Runs}
 
 -- lines of the request file were read and answered, and this is the text of their answers; the journals are kept
--- meanwhile, and the run is lawful
+-- meanwhile, and the run is lawful. With one caller nothing is in doubt at the end but the record of a line that was
+-- answered that its store failed
 pub record AnswersLines (config : List ℕ) (requests : RequestFile) (journal : List ℕ) (seen : Seen) (text : List ℕ)
     : Type 0 where
   pub issuer : Setup
@@ -44,6 +45,7 @@ pub record AnswersLines (config : List ℕ) (requests : RequestFile) (journal : 
   pub held : Tells (seen.desk.tells requests.name) (Some file)
   pub was_read : WasRead file read input.left
   pub answered : AreAnsweredBy requests.callers issuer first last asked answers
+  pub own_tails : requests.callers ≡ 1 → HoldOwnTails issuer asked answers seen.journals last
   pub printed_is : text ≡ flat_map printed answers
 
 -- the journals were loaded to serve, and no line was answered; the journals are kept meanwhile, and the run is lawful

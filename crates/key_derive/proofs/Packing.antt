@@ -61,12 +61,10 @@ drop-row-3 pan psn few =
     let long : length (card_digits pan psn) ≡ length pan + 2 = length-append pan (psn / 16 ∷ psn % 16 ∷ []) in
     let row : drop (2 * 3) (replicate (20 - length pan) 0 ++ card_digits pan psn)
     ≡ replicate (20 - length pan - 6) 0 ++ drop (6 - (20 - length pan)) (card_digits pan psn) = drop-zeros 6 (20 - length pan) (card_digits pan psn) in
-    let right : rightmost16 (card_digits pan psn) ≡ replicate (16 - length (card_digits pan psn)) 0 ++ drop (length (card_digits pan psn) - 16)
-    (card_digits pan psn) = drop-zeros (length (card_digits pan psn)) 16 (card_digits pan psn) in
     let zeros : 20 - length pan - 6 ≡ 16 - length (card_digits pan psn) = omega arith in
     let left_out : 6 - (20 - length pan) ≡ length (card_digits pan psn) - 16 = omega arith in
     drop-packed 3 (replicate (20 - length pan) 0 ++ card_digits pan psn)
-    ∙ ap packed (row ∙ ap₂ (λ m n. replicate m 0 ++ drop n (card_digits pan psn)) zeros left_out ∙ sym right)
+    ∙ ap packed (row ∙ ap₂ (λ m n. replicate m 0 ++ drop n (card_digits pan psn)) zeros left_out)
 
 -- the bytes of the row from the first that a digit stands in are the digits, made even in number
 pub drop-row-used : (pan : List ℕ) (psn unused : ℕ) → length pan ≤ 20 → unused ≡ 11 - (length pan + 3) / 2

@@ -13,9 +13,9 @@ packed (high ∷ low ∷ digits) = (16 * high + low) ∷ packed digits
 abbrev pub card_digits : List ℕ → ℕ → List ℕ
 card_digits pan psn = pan ++ digits_of psn
 
--- the rightmost sixteen of some digits, padded with zeros on the left if there are fewer
+-- the last sixteen of some digits, with zeros on the left if there are fewer
 unfoldable pub rightmost16 : List ℕ → List ℕ
-rightmost16 digits = drop (length digits) (replicate 16 0 ++ digits)
+rightmost16 digits = replicate (16 - length digits) 0 ++ drop (length digits - 16) digits
 
 -- the digits, padded with one zero on the left if their number is odd
 unfoldable pub evened : List ℕ → List ℕ

@@ -1,5 +1,5 @@
 -- A line that carries a request asks what the request's check gives, also if the request was looked up again.
-use Rattle.std.proofs.Common.{◌≡◌, ℕ, List, [], ◌∷◌, All, Result, Ok, Err, IfOk, IfErr, ap, sym, subst, ◌∙◌}
+use Rattle.std.proofs.Common.{◌≡◌, ℕ, List, [], ◌∷◌, All, Result, Ok, Err, IfOk, ap, sym, subst, ◌∙◌}
 use Rattle.std.specs.List.{AllZip}
 use Rattle.std.proofs.lemmas.List.Elements.{All-nil, All-cons}
 use Rattle.issuer_base.specs.declared.request.Request.{Request}
@@ -28,14 +28,6 @@ sought-again issuer line (Ok (IsRequest old)) (Ok (Order order)) its again = abs
 sought-again issuer line (Ok (IsRequest old)) (Err refusal) its again = absurd cc
 sought-again issuer line (Ok (Order order)) new its again = subst (λ found. IfOk found (IsSought issuer line)) (sym again) its
 sought-again issuer line (Err refusal) new its again = subst (λ found. IfOk found (IsSought issuer line)) (sym again) tt
-
--- a refusal stays the same
-pub refused-again : (issuer : Setup) (P : Refusal → Type 0) (old new : Result LookedUp Refusal) → IfErr old P → IsLookedUpAgain issuer old new → IfErr new P
-refused-again issuer P (Ok (IsRequest old)) (Ok (IsRequest new)) its again = tt
-refused-again issuer P (Ok (IsRequest old)) (Ok (Order order)) its again = absurd cc
-refused-again issuer P (Ok (IsRequest old)) (Err refusal) its again = absurd cc
-refused-again issuer P (Ok (Order order)) new its again = subst (λ found. IfErr found P) (sym again) tt
-refused-again issuer P (Err refusal) new its again = subst (λ found. IfErr found P) (sym again) its
 
 -- ---- the look-ups of several lines
 

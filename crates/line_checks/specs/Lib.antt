@@ -1,4 +1,5 @@
 -- The definitions that the contracts of this crate cite.
+pub mod Parsed
 pub mod Reading
 pub mod AtHand
 pub mod LookedUp

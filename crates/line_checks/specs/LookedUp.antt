@@ -9,7 +9,7 @@ use Rattle.issuer_base.specs.ChipData.{is_arqc, suite_of}
 use Rattle.card_history.specs.Records.{card_of}
 use Rattle.card_history.specs.declared.decision.Asked.{Asked}
 use Rattle.chip_request.specs.declared.line.LineKind.TheVariants.{Ask}
-use Rattle.chip_request.specs.LineParts.{line_of}
+use Rattle.line_checks.specs.Parsed.{line_of}
 use Rattle.chip_request.specs.Reading.{request_of}
 use Rattle.des_block.specs.declared.Key16.{Key16}
 use Rattle.key_derive.specs.declared.card.CardKeys.{CardKeys}

@@ -16,7 +16,7 @@ use Rattle.chip_request.specs.declared.reading.RequestFault.TheVariants.{BadTlv 
 use Rattle.chip_request.specs.declared.reading.RequestFault.TheVariants.{BadField as HasBadField, Repeated as Repeats}
 use Rattle.chip_request.specs.declared.line.LineKind.{LineKind}
 use Rattle.chip_request.specs.declared.line.LineKind.TheVariants.{Ask, Queue as IsQueue, Set as IsSet}
-use Rattle.chip_request.specs.LineParts.{line_of}
+use Rattle.line_checks.specs.Parsed.{line_of}
 use Rattle.chip_request.specs.Reading.{request_of}
 use Rattle.key_derive.specs.declared.card.CardKeys.{CardKeys}
 use Rattle.cryptogram_in.specs.Cryptogram.{application_cryptogram}

@@ -1,14 +1,15 @@
 -- The host of one caller: a line more, and what it leaves.
 use Rattle.std.proofs.Common.{◌≡◌, ◌+◌, ◌<◌, ℕ, List, [], ◌∷◌, ◌++◌, length, drop, map, get_or, Result}
-use Rattle.std.proofs.Common.{refl, sym, ap, subst, ◌∙◌, append-nil, append_assoc, arith}
+use Rattle.std.proofs.Common.{refl, sym, ap, subst, ◌∙◌, inl, inr, append-nil, append_assoc, arith}
 use Rattle.std.specs.Prelude.{IfSome, Option, None, Some}
-use Rattle.std.proofs.lemmas.List.{drop_more, flat_map_more}
+use Rattle.std.proofs.lemmas.List.{drop_more, flat_map_more, length-map}
 use Rattle.std.proofs.lemmas.Slice.Zip.{all_zipped_more}
-use Rattle.std.proofs.lemmas.Option.{get_or_from_slice_get, slice_get-get_or, slice_get_within}
+use Rattle.std.proofs.lemmas.Option.{get_or_from_slice_get, same_Some, slice_get-get_or, slice_get_within}
 use Rattle.std.specs.Option.{IsSome, option_map}
 use Rattle.std.specs.List.{flat_map, slice_get}
 use Rattle.issuer_base.specs.declared.answer.Answer.{Answer}
 use Rattle.issuer_base.specs.declared.answer.Refusal.{Refusal}
+use Rattle.issuer_base.specs.declared.entry.Entry.{Entry}
 use Rattle.issuer_base.specs.declared.outside.store.Store.{Ghosts}
 use Rattle.line_reader.specs.Reading.{kept}
 use Rattle.line_checks.specs.LookedUp.{IsLookUp, AreLookUps}
@@ -23,7 +24,9 @@ use Rattle.shard_book.proofs.OwnDecisions.{legal-then}
 use Rattle.one_caller.specs.declared.solo.Solo.{Solo}
 use Rattle.host_loading.specs.Books.{ShardBook}
 use Rattle.host_loading.specs.Hosts.{AreShards, Stand}
-use Rattle.one_caller.specs.Runs.{HasRun, LeaveBetween}
+use Rattle.host_loading.proofs.Places.{read-map}
+use Rattle.one_caller.specs.Runs.{HasRun, LeavesAnswering}
+use Rattle.one_caller.specs.OwnTails.{IsOwnTail}
 use Rattle.one_caller.specs.Turns.{Run, Turn}
 use Rattle.one_caller.proofs.OneRun.{run-one_history}
 use Rattle.one_caller.proofs.Running.{begins-legal, run-on}
@@ -36,9 +39,10 @@ use Rattle.line_serving.specs.declared.hosts.LineHost.TheVariants.{Alone}
 use Rattle.line_serving.specs.Durable.{IsRecordedText}
 use Rattle.line_serving.specs.Hosts.{HasAnswered, MaySettleAlone, IsIdle}
 use Rattle.desk_host.specs.Left.{LeaveJournals}
-use Rattle.desk_host.specs.SeenStores.{Logged, journals_seen}
+use Rattle.desk_host.specs.Kept.{HoldOwnTails}
+use Rattle.desk_host.specs.SeenStores.{Logged, SeenJournals, journals_seen}
 use Rattle.desk_host.proofs.HostRuns.{run-line, recorded}
-use Rattle.desk_host.proofs.KeptSteps.{begins, keep-journals}
+use Rattle.desk_host.proofs.KeptSteps.{begins, hold-own_tails, keep-journals}
 use Rattle.desk_host.proofs.SeenSteps.{at-place}
 use Rattle.desk_host.proofs.LeftSteps.{closed-left}
 use Rattle.desk_host.proofs.LoadedLaws.{lawful-loaded}
@@ -55,6 +59,41 @@ run-kept issuer first (line ∷ asked) (answer ∷ answers) last run = (
 )
 run-kept issuer first [] (answer ∷ answers) last run = absurd run
 run-kept issuer first (line ∷ asked) [] last run = absurd run
+
+-- what is in doubt as the record of a line cut to what is kept of it is so as that of the line
+own-kept : (issuer : Setup) (shard : ℕ) (asked : List (List ℕ)) (answers : List Answer) (history : List Entry)
+    (tail : List ℕ) → IsOwnTail issuer shard (map kept asked) answers history tail
+    → IsOwnTail issuer shard asked answers history tail
+own-kept issuer shard asked answers history tail own = elim own [
+  | inl none ↦ inl none
+  | inr its ↦
+      let below = slice_get_within (map kept asked) its.index its.line its.line_is in
+      let at = at-place asked its.index (omega (arith, below, length-map asked kept)) in
+      let same : kept at.0 ≡ its.line =
+      same_Some (kept at.0) its.line (sym (read-map kept asked its.index at.0 at.1) ∙ its.line_is) in
+      inr (record {
+        index = its.index;
+        line = at.0;
+        asked = its.asked;
+        line_is = at.1;
+        answer_is = its.answer_is;
+        asked_is = sym (reading-kept issuer at.0) ∙ ap (reading issuer) same ∙ its.asked_is;
+        home = its.home;
+        text_is = its.text_is;
+      })
+]
+
+own-tails_kept : (issuer : Setup) (asked : List (List ℕ)) (answers : List Answer) (journals : SeenJournals)
+    (last : List ShardBook) → HoldOwnTails issuer (map kept asked) answers journals last
+    → HoldOwnTails issuer asked answers journals last
+own-tails_kept issuer asked answers journals last own shard is store is_at store_at =
+    let its = own shard is store is_at store_at in
+    record {
+      tail = its.tail;
+      own = own-kept issuer shard asked answers is.history its.tail its.own;
+      bytes_are = its.bytes_are;
+      leaves = its.leaves;
+    }
 
 -- the text of one answer more
 pub texts-more : (answers : List Answer) (answer : Answer)
@@ -157,7 +196,8 @@ module _ {S : Type 0} {G : Ghosts S} where
       → (after : List ShardBook) × Stand new.host.issuer new.host.shards.items after
       × Turn old.host.issuer books (reading old.host.issuer line) answer after)
       → ((books : List ShardBook) → Stand old.host.issuer old.host.shards.items books
-      → LeaveBetween old.host.issuer books books old.host.shards.items new.host.shards.items)
+      → LeavesAnswering old.host.issuer (reading old.host.issuer line) answer books old.host.shards.items
+      new.host.shards.items)
       → (lines : List (List ℕ)) (text : List ℕ) (waiting left : List (List ℕ))
       → HasAnswered first lines text waiting old → AreLookUps first.issuer left new.ahead
       → HasAnswered first (lines ++ line ∷ []) (text ++ printed answer) left new
@@ -176,7 +216,7 @@ module _ {S : Type 0} {G : Ghosts S} where
         (λ books stands. let t = turn books stands in
         (t.0, subst (λ (i : Setup). Stand i new.host.shards.items t.0) same t.1, t.2)))
         (subst (λ (i : Setup). (books : List ShardBook) → Stand i old.host.shards.items books
-        → LeaveBetween i books books old.host.shards.items new.host.shards.items)
+        → LeavesAnswering i (reading i line) answer books old.host.shards.items new.host.shards.items)
         so_far.issuer_is leaves);
   }
 
@@ -188,7 +228,8 @@ module _ {S : Type 0} {G : Ghosts S} where
       → (after : List ShardBook) × Stand new.host.issuer new.host.shards.items after
       × Turn old.host.issuer books (reading old.host.issuer line) answer after)
       → ((books : List ShardBook) → Stand old.host.issuer old.host.shards.items books
-      → LeaveBetween old.host.issuer books books old.host.shards.items new.host.shards.items)
+      → LeavesAnswering old.host.issuer (reading old.host.issuer line) answer books old.host.shards.items
+      new.host.shards.items)
       → (lines : List (List ℕ)) (text : List ℕ) (waiting : List (List ℕ)) → HasAnswered first lines text waiting old
       → TakesLine (λ lines text waiting. HasAnswered first lines text waiting new) lines text waiting line was_due
       is_due
@@ -282,8 +323,10 @@ module _ {S : Type 0} {G : Ghosts S} where
       → (books : List ShardBook) → Stand old.host.issuer old.host.shards.items books
       → (after : List ShardBook) × Stand new.host.issuer new.host.shards.items after
       × Turn old.host.issuer books (reading old.host.issuer line) answer after)
-      → ((books : List ShardBook) → Stand old.host.issuer old.host.shards.items books
-      → LeaveBetween old.host.issuer books books old.host.shards.items new.host.shards.items)
+      → ((line : List ℕ) → IsLookUp old.host.issuer line found
+      → (books : List ShardBook) → Stand old.host.issuer old.host.shards.items books
+      → LeavesAnswering old.host.issuer (reading old.host.issuer line) answer books old.host.shards.items
+      new.host.shards.items)
       → (was_due mid_due is_due : List ℕ) → is_due ≡ mid_due ++ printed answer
       → (lines : List (List ℕ)) (text : List ℕ) (waiting : List (List ℕ))
       → IsSettling first lines text waiting was_due mid_due old
@@ -291,7 +334,7 @@ module _ {S : Type 0} {G : Ghosts S} where
   settling-more first old new found answer taken same turn leaves was_due mid_due is_due due lines text waiting so_far =
       let its = first-of first.issuer so_far.left found old.ahead new.ahead taken so_far.served.waits in
       let looked_up = subst (λ (issuer : Setup). IsLookUp issuer its.line found) (sym so_far.served.issuer_is) its.first in
-      let more = answers-more first old new its.line answer same (turn its.line looked_up) leaves (lines ++ so_far.done)
+      let more = answers-more first old new its.line answer same (turn its.line looked_up) (leaves its.line looked_up) (lines ++ so_far.done)
       (text ++ so_far.more) so_far.left its.left so_far.served its.others in
       record {
         done = so_far.done ++ its.line ∷ [];
@@ -385,6 +428,12 @@ module _ {S : Type 0} {G : Ghosts S} where
                 (recorded ended.1.stand);
             answers = so_far.answers;
             answered = record { run = run; law = one };
+            own_tails = λ count.
+                own-tails_kept issuer asked so_far.answers (journals_seen G olds stores) last
+                (subst (λ (ss : List S). HoldOwnTails issuer (map kept asked) so_far.answers (journals_seen G olds ss) last)
+                (sym stores_are)
+                (hold-own_tails issuer (map kept asked) so_far.answers olds now.host.shards.items last ended.1.stand
+                ended.1.own_tails));
             text_is = so_far.text_is;
           }
 

@@ -486,6 +486,7 @@ module _ {S : Type 0} {G : Ghosts S} (count : ℕ) (issuer : Setup) (prefix : Li
       answered =
           several count _ (AreAnsweredTogether count issuer first_books last_books asked answers) more
           answered-together;
+      own_tails = λ one. absurd (omega (arith, more, one));
       text_is = text_is;
     }
 

@@ -6,7 +6,7 @@ use Rattle.issuer_setup.specs.IssuerSetup.{Setup}
 use Rattle.answer_text.specs.AnswerText.{printed}
 use Rattle.host_loading.specs.Books.{ShardBook}
 use Rattle.shared_laws.specs.Answers.{AreAnsweredBy, AnswersNone}
-use Rattle.desk_host.specs.Kept.{KeepJournals}
+use Rattle.desk_host.specs.Kept.{KeepJournals, HoldOwnTails}
 use Rattle.desk_host.specs.Lawful.{IsLawful}
 use Rattle.desk_host.specs.Left.{LeaveJournals}
 use Rattle.desk_host.specs.SeenStores.{Logged, SeenJournals}
@@ -20,6 +20,7 @@ pub record LeavesAnswered (count : ℕ) (issuer : Setup) (prefix : List ℕ) (lo
   pub lawful : IsLawful issuer first last
   pub answers : List Answer
   pub answered : AreAnsweredBy count issuer first last lines answers
+  pub own_tails : count ≡ 1 → HoldOwnTails issuer lines answers journals last
   pub text_is : text ≡ flat_map printed answers
 
 -- what it leaves where it answered none

@@ -6,6 +6,7 @@ pub mod LegalBooks
 pub mod OneRun
 pub mod Rooms
 pub mod Shown
+pub mod OwnTails
 pub mod Running
 pub mod Orders
 pub mod Restarts

@@ -1,5 +1,5 @@
 -- What a call of one shard does to the host: the books after it, and what a crash may leave.
-use Rattle.std.proofs.Common.{◌≡◌, ◌≢◌, ℕ, ◌<◌, ◌%◌, List, [], length, set, length-set, Some, refl, sym, ap, subst, ◌∙◌, inl, inr, arith, append-nil}
+use Rattle.std.proofs.Common.{◌≡◌, ◌≢◌, ℕ, ◌<◌, ◌%◌, List, [], length, set, length-set, Some, Result, Ok, Err, refl, sym, ap, subst, ◌∙◌, inl, inr, arith, append-nil}
 use Rattle.std.proofs.lemmas.Bool.{cases_eq}
 use Rattle.std.proofs.lemmas.Option.{same_Some, slice_get_within}
 use Rattle.std.specs.List.{slice_get}
@@ -9,22 +9,25 @@ use Rattle.issuer_base.proofs.Moments.{LeavesOnly-weaker}
 use Rattle.issuer_base.proofs.ToldTwice.{BothTold-weaker}
 use Rattle.issuer_base.specs.declared.outside.store.Store.{Ghosts}
 use Rattle.issuer_base.specs.declared.answer.Answer.{Answer}
+use Rattle.issuer_base.specs.declared.answer.Refusal.{Refusal}
+use Rattle.card_history.specs.declared.decision.Asked.{Asked}
 use Rattle.issuer_base.specs.declared.entry.Entry.{Entry}
 use Rattle.issuer_base.specs.CardNames.{CardName}
 use Rattle.issuer_setup.specs.IssuerSetup.{Setup, shard_of}
 use Rattle.journal_rec.specs.RecordText.{journal_text}
 use Rattle.journal_store.specs.Holding.{Holds}
 use Rattle.shard_book.specs.declared.shard.Shard.{Shard}
-use Rattle.shard_book.specs.Answering.{is_store_fault, reported_after}
+use Rattle.shard_book.specs.Answering.{is_store_fault, reported_after, LeavesTail}
 use Rattle.shard_book.specs.Calls.{AnswersBy, LeavesImages, KeepsCall}
 use Rattle.shard_book.specs.Grounds.{grounds_now, IsImageOf}
-use Rattle.shard_book.specs.Shards.{number_in, IsUnder, HasCard, disk_in, faults_in, reported_in, IsUndoubted, HoldsHistory, StandsFor}
+use Rattle.shard_book.specs.Shards.{number_in, IsUnder, HasCard, disk_in, faults_in, reported_in, IsUndoubted, HasTail, HoldsHistory, StandsFor}
 use Rattle.shard_book.proofs.ShardSteps.{crash-no_call}
 use Rattle.shard_book.specs.Histories.{GoesOn, IsImageBetween}
 use Rattle.host_loading.specs.Books.{ShardBook}
 use Rattle.host_loading.specs.Hosts.{AreShards, StandsForBook, Stand}
-use Rattle.one_caller.specs.Runs.{LeaveBetween}
-use Rattle.one_caller.specs.Turns.{AnswersIn}
+use Rattle.one_caller.specs.OwnTails.{record_asked, LeaveTails}
+use Rattle.one_caller.specs.Runs.{LeaveBetween, LeavesAnswering}
+use Rattle.one_caller.specs.Turns.{card_asked, AnswersIn}
 use Rattle.host_loading.proofs.Places.{read-written, read-other, read-within}
 
 -- a history extends itself
@@ -95,6 +98,17 @@ module _ {S : Type 0} {G : Ghosts S} where
       between-same issuer number before after was.history is.history same_book
       (subst (λ (after : Shard S G). BothTold (LeavesOnly (IsImageOf (grounds_now issuer) number was.history)) (disk_in before) (disk_in after)) same
       (leaves-uncalled issuer number before was.history (are.numbers_are number before before_is) (stand.each number before was before_is was_is).stands))
+
+  -- and so is what is in doubt, where a line is refused before it calls a shard
+  pub leaves-uncalled_by : (issuer : Setup) (shards : List (Shard S G)) → AreShards issuer shards → (asked : Result Asked Refusal) (refusal : Refusal)
+      → asked ≡ Err refusal → (answer : Answer) (books : List ShardBook) → Stand issuer shards books
+      → LeavesAnswering issuer asked answer books shards shards
+  leaves-uncalled_by issuer shards are asked refusal asked_is answer books stand =
+      subst (λ (asked : Result Asked Refusal). LeavesAnswering issuer asked answer books shards shards) (sym asked_is) (record {
+        crash = leave-uncalled issuer shards are books stand;
+        tails = λ number before after book tail before_is after_is book_is has.
+            subst (λ (shard : Shard S G). HasTail shard book.history tail) (same_Some before after (sym before_is ∙ after_is)) has;
+      })
 
   module _ {issuer : Setup} {shards : List (Shard S G)} (are : AreShards issuer shards) {name : CardName} {home : ℕ} {old new : Shard S G} {answer : Answer}
       {Changes : ℕ → List Entry → List Entry → Type 0} (called : IsCalled issuer shards name home old new answer Changes) where
@@ -193,3 +207,25 @@ module _ {S : Type 0} {G : Ghosts S} where
             | inr apart ↦
                 leave-uncalled issuer shards are books stand number before after was is before_is (there-other number after apart after_is) was_is is_is
           ]
+
+      -- and what is in doubt is what was, or in the shard that was called what its call leaves
+      pub tails-after : (asked : Asked) → name ≡ card_asked asked
+          → ((history : List Entry) (tail : List ℕ) → StandsFor issuer old history → HasTail old history tail
+          → LeavesTail (record_asked issuer history asked) history tail answer new)
+          → LeaveTails issuer (Ok asked) answer books shards (set shards home new)
+      tails-after asked name_is leaves number before after book tail before_is after_is book_is has =
+          let home_is : home ≡ shard_of issuer (card_asked asked) = called.home_is ∙ ap (shard_of issuer) name_is in
+          record {
+            home = λ at.
+                let same : number ≡ home = sym at ∙ sym home_is in
+                let old_at : old ≡ before = same_Some old before (sym called.old_is ∙ subst (λ number. slice_get shards number ≡ Some before) same before_is) in
+                let new_at = there after (subst (λ number. slice_get (set shards home new) number ≡ Some after) same after_is) in
+                let stands = (stand.each number before book before_is book_is).stands in
+                subst (λ (after : Shard S G). LeavesTail (record_asked issuer book.history asked) book.history tail answer after) new_at
+                (leaves book.history tail (subst (λ (shard : Shard S G). StandsFor issuer shard book.history) (sym old_at) stands)
+                (subst (λ (shard : Shard S G). HasTail shard book.history tail) (sym old_at) has));
+            other = λ apart.
+                let same : before ≡ after = same_Some before after (sym before_is
+                ∙ there-other number after (λ at. apart (sym (at ∙ home_is))) after_is) in
+                subst (λ (shard : Shard S G). HasTail shard book.history tail) same has;
+          }

@@ -9,6 +9,7 @@ use Rattle.line_checks.specs.AtHand.{IsOrderAtHand, IsCardAtHand, number_of_orde
 use Rattle.line_checks.proofs.Orders.{order-card}
 use Rattle.shard_book.specs.Answering.{AnswersOrder}
 use Rattle.shard_book.specs.Room.{most_of}
+use Rattle.one_caller.specs.OwnTails.{record_asked}
 use Rattle.one_caller.specs.Room.{most_asked}
 use Rattle.one_caller.specs.Turns.{card_asked, AnswersAsked}
 
@@ -28,3 +29,8 @@ order-answers issuer (Status found) answer shard before after answers = answers
 pub order-most : (order : CheckedOrder) → most_of (record_of order) ≡ most_asked (order_asked order)
 order-most (Command found) = refl
 order-most (Status found) = refl
+
+-- and the record that it asks for
+pub order-record : (issuer : Setup) (history : List Entry) (order : CheckedOrder) → record_of order ≡ record_asked issuer history (order_asked order)
+order-record issuer history (Command found) = refl
+order-record issuer history (Status found) = refl

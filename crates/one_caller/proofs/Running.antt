@@ -1,11 +1,11 @@
 -- A run of a host from its loading on: it begins with the loaded books, and each store has its book's journal.
-use Rattle.std.proofs.Common.{◌≡◌, ℕ, zero, suc, false, List, [], ◌∷◌, ◌++◌, length, map, Option, None, Some, IfSome, refl, sym, subst, ◌∙◌, arith}
+use Rattle.std.proofs.Common.{◌≡◌, ℕ, zero, suc, false, List, [], ◌∷◌, ◌++◌, length, map, Option, Some, refl, sym, subst, ◌∙◌, arith}
 use Rattle.std.proofs.Common.{inl}
 use Rattle.std.proofs.lemmas.List.{length-map}
 use Rattle.std.proofs.lemmas.Option.{same_Some, slice_get_within}
 use Rattle.std.specs.List.{slice_get}
 use Rattle.issuer_base.specs.OutsideFaults.{CountsFaults}
-use Rattle.issuer_base.specs.Stores.{BothTold, Disk, LeavesOnly, MayLeave}
+use Rattle.issuer_base.specs.Stores.{BothTold, Disk, LeavesOnly}
 use Rattle.issuer_base.proofs.Moments.{LeavesOnly-then, LeavesOnly-weaker}
 use Rattle.issuer_base.proofs.ToldTwice.{BothTold-then}
 use Rattle.issuer_base.specs.declared.answer.Answer.{Answer}
@@ -16,8 +16,6 @@ use Rattle.journal_rec.specs.RecordText.{journal_text}
 use Rattle.line_checks.specs.Reading.{reading}
 use Rattle.journal_store.specs.declared.journal.Journal.{Journal}
 use Rattle.journal_store.specs.Holding.{Holds}
-use Rattle.journal_store.specs.Images.{HasSafeText, IsImage}
-use Rattle.journal_store.proofs.Passing.{leaves-image}
 use Rattle.shard_book.specs.declared.shard.Shard.{Shard}
 use Rattle.shard_book.specs.Grounds.{IsTail, grounds_now}
 use Rattle.shard_book.specs.Shards.{store_in, disk_in, faults_in, IsJournalOf, IsLoadImage}
@@ -28,13 +26,14 @@ use Rattle.host_loading.specs.Hosts.{AreShards, StandsForBook, Stand}
 use Rattle.shard_book.specs.Loads.{IsLoadedFrom}
 use Rattle.host_loading.specs.Loading.{AreLoaded}
 use Rattle.one_caller.specs.OneHistory.{AreLegalBooks}
-use Rattle.one_caller.specs.Runs.{HoldsJournal, HoldJournals, LeaveBetween, HasRun}
+use Rattle.one_caller.specs.Runs.{HoldsJournal, HoldJournals, LeaveBetween, LeavesAnswering, HasRun}
 use Rattle.one_caller.specs.Turns.{Turn, Run}
 use Rattle.host_loading.proofs.Places.{read-within, read-map, choose}
 use Rattle.one_caller.proofs.TurnSteps.{turn-adds}
 use Rattle.one_caller.proofs.LegalBooks.{adds-goes_on}
 use Rattle.host_loading.proofs.Loads.{loaded-are, shard-of}
 use Rattle.one_caller.proofs.OneShard.{leave-uncalled}
+use Rattle.one_caller.proofs.OwnTails.{own-more, run-long, safe-left}
 
 -- ---- the books of shards that were loaded
 
@@ -110,6 +109,10 @@ module _ {S : Type 0} {G : Ghosts S} where
           run = refl;
           stand = stand;
           leave = leave-uncalled issuer shards (loaded-are issuer olds read stores shards long loaded) made.0 stand;
+          own_tails = λ number shard book shard_is book_is.
+              let its = shard-of issuer olds read stores shards loaded number shard shard_is in
+              let both = made.2 number shard book shard_is book_is its.old its.store its.old_is its.store_is in
+              record { tail = []; has_tail = both.0.settled both.1.untold; own = inl refl };
         };
         books_are = λ number old store shard book old_is store_is shard_is book_is. (made.2 number shard book shard_is book_is old store old_is store_is).1;
       }
@@ -209,21 +212,18 @@ module _ {S : Type 0} {G : Ghosts S} (issuer : Setup) (loaded : List (Shard S G)
 
   -- one more line was answered
   pub has_run-more : (line : List ℕ) (answer : Answer) (new : List (Shard S G)) (after : List ShardBook) → Stand issuer new after
-      → Turn issuer books (reading issuer line) answer after → LeaveBetween issuer books books now new
+      → Turn issuer books (reading issuer line) answer after → LeavesAnswering issuer (reading issuer line) answer books now new
       → HasRun issuer loaded first (lines ++ line ∷ []) (answers ++ answer ∷ []) new after
   has_run-more line answer new after stand turn leave = record {
     run = run-more issuer first lines answers books line answer after run.run turn;
     stand = stand;
-    leave = leave-more new after stand (turn-on issuer books line answer after turn) leave;
+    leave = leave-more new after stand (turn-on issuer books line answer after turn) leave.crash;
+    own_tails =
+        own-more issuer lines answers books now run.stand run.own_tails line answer new after (run-long issuer first lines answers books run.run) stand
+        (turn-on issuer books line answer after turn).count_is turn leave.tails;
   }
 
 -- ---- the journals
-
--- a crash leaves a durable text, and a prefix of what may be after it
-safe-left : (text tail : List ℕ) (disk : Option Disk) → IfSome disk (λ disk. HasSafeText text tail disk.now)
-    → IfSome disk (λ disk. (image : List ℕ) → MayLeave disk.now image → IsImage text tail image)
-safe-left text tail None safe = tt
-safe-left text tail (Some disk) safe = λ image left. leaves-image text tail disk.now image safe left
 
 module _ {S : Type 0} {G : Ghosts S} (issuer : Setup) (number : ℕ) (book : ShardBook) (journal : Journal S G) where
   -- a store holds the journal of its shard's book

@@ -15,7 +15,7 @@ ghost use Rattle.host_loading.specs.Hosts.{AreShards, Stand};
 ghost use Rattle.host_loading.specs.Loading.{AreLoaded, AreOnlyRead, ComeBack};
 ghost use Rattle.host_loading.specs.StoreRoom.{HaveRoom, StoresHaveRoom};
 ghost use Rattle.one_caller.specs.Room.{AnswersWithin};
-ghost use Rattle.one_caller.specs.Runs.{HoldJournals, LeaveBetween};
+ghost use Rattle.one_caller.specs.Runs.{HoldJournals, Leaves};
 ghost use Rattle.one_caller.specs.Turns.{Turn};
 ghost use Rattle.card_history.specs.CardViews.{card_shown};
 
@@ -108,9 +108,10 @@ impl<S: Store> Solo<S> {
             self.old.shards.items self.new.shards.items }
 
         // Whatever a crash since the start of the call may leave of a store is the text of its shard's history before
-        // the call, possibly with a torn record after it.
-        ensures crash { (books : List ShardBook) → Stand self.old.issuer self.old.shards.items books
-            → LeaveBetween self.old.issuer books books self.old.shards.items self.new.shards.items }
+        // the call, possibly with a torn record after it. After a fault this very line's record may be in doubt, or what
+        // was in doubt before.
+        ensures leaves { Leaves self.old.issuer (reading self.old.issuer line.now) result
+            self.old.shards.items self.new.shards.items }
         ensures issuer { self.new.issuer ≡ self.old.issuer }
     {
         let found = self.look_ahead(line);
@@ -143,8 +144,9 @@ impl<S: Store> Solo<S> {
         ensures room { (line : List ℕ) → IsLookUp self.old.issuer line found.now
             → AnswersWithin self.old.issuer (reading self.old.issuer line) result
             self.old.shards.items self.new.shards.items }
-        ensures crash { (books : List ShardBook) → Stand self.old.issuer self.old.shards.items books
-            → LeaveBetween self.old.issuer books books self.old.shards.items self.new.shards.items }
+        ensures leaves { (line : List ℕ) → IsLookUp self.old.issuer line found.now
+            → Leaves self.old.issuer (reading self.old.issuer line) result
+            self.old.shards.items self.new.shards.items }
         ensures issuer { self.new.issuer ≡ self.old.issuer }
     {
         let sought = match found {
@@ -215,8 +217,8 @@ impl<S: Store> Solo<S> {
             × Turn self.old.issuer books (Ok (order_asked found.now)) result after }
         ensures room { AnswersWithin self.old.issuer (Ok (order_asked found.now)) result
             self.old.shards.items self.new.shards.items }
-        ensures crash { (books : List ShardBook) → Stand self.old.issuer self.old.shards.items books
-            → LeaveBetween self.old.issuer books books self.old.shards.items self.new.shards.items }
+        ensures leaves { Leaves self.old.issuer (Ok (order_asked found.now)) result
+            self.old.shards.items self.new.shards.items }
         ensures unchanged { tells_change result ≡ false → self.new.shards.items ≡ self.old.shards.items }
         ensures issuer { self.new.issuer ≡ self.old.issuer }
     {

@@ -20,10 +20,12 @@ use Rattle.shard_book.specs.declared.replay.Version.{Version}
 use Rattle.shard_book.specs.ShardRows.{ShardRows, RowsStandFor}
 use Rattle.shard_book.specs.Versions.{bad_record, grounds_in}
 
--- records, and what was looked up for each
+-- records, what was looked up for each, and for how many indices, from the first on, the issuer authentication data are
+-- made
 pub record ReadAhead : Type 0 where
   pub entries : List Entry
   pub found : List (Result LookedUp Refusal)
+  pub made : ℕ
 
 -- what was looked up for a record: a decision's request with its card and keys, another record's card, or a refusal
 abbrev pub IsLookedUp : Setup → Entry → Result LookedUp Refusal → Type 0

@@ -1,8 +1,11 @@
 //! Reads the records of a journal's next lines ahead, so that the cryptograms of their requests are checked together.
-ghost use Rattle.std.specs.Prelude.{◌≡◌, ◌≤◌, ◌<◌, ℕ, [], ◌∷◌, ◌++◌, length, slice_get, take, drop, Some};
+ghost use Rattle.std.specs.Prelude.{◌≡◌, ◌↔◌, ◌≤◌, ◌<◌, ℕ, [], ◌∷◌, ◌++◌, length, slice_get, take, drop, Some, IsSome};
 ghost use Rattle.std.specs.List.{AllZip};
+ghost use Rattle.arpc_methods.specs.Batch.{answers_at};
+ghost use Rattle.arpc_methods.specs.declared.batch.TheConstants.{FEWEST_IN_LANES};
 ghost use Rattle.issuer_base.specs.declared.entry.Entry.{Entry};
 ghost use Rattle.line_checks.specs.declared.lines_ahead.TheConstants.{MOST_AHEAD};
+ghost use Rattle.shard_book.specs.Answers.{answer_of};
 ghost use Rattle.shard_book.specs.LineAhead.{IsLineAhead};
 ghost use Rattle.shard_book.specs.ReadAhead.{IsLookedUp, AreLookedUp, AreNext, IsNoRecord};
 
@@ -21,7 +24,7 @@ use std::marker::Model;
 /// The records of lines that were read ahead, what was looked up for each, and the issuer authentication data that were
 /// made for them, if any.
 ///
-/// A contract sees the lists of records and look-ups.
+/// A contract sees the lists of records and look-ups, and how many data are made.
 #[derive(Drop)]
 pub(crate) struct Ahead {
     entries: Vec<Entry>,
@@ -36,7 +39,11 @@ impl Model for Ahead {
 
     ghost Value = { ReadAhead };
 
-    ghost view = { λ ahead. record { entries = ahead.entries.items; found = ahead.found } };
+    ghost view = { λ ahead. record {
+      entries = ahead.entries.items;
+      found = ahead.found;
+      made = ahead.answers.made;
+    } };
 
     ghost invariant = { λ ahead. MOST_AHEAD ≤ vec_capacity ahead.entries };
 }
@@ -76,19 +83,24 @@ impl Ahead {
     }
 
     /// The issuer authentication data that were made for the record with this index, if they were.
-    pub(crate) fn made(&self, index: usize) -> Option<MadeAhead> {
+    pub(crate) fn made(&self, index: usize) -> Option<MadeAhead>
+        ensures { IsSome result ↔ (index < self.now.made) }
+    {
         self.answers.get(index)
     }
 
     /// Reads up to [`MOST_AHEAD`] whole lines of a text from an offset on, as far as they are those of records, in place of
     /// what was read before. The card of each record is looked up, the cryptograms of their requests are checked together,
-    /// and their issuer authentication data made together. Returns the offset of their end.
+    /// and their issuer authentication data made together, if there are enough of them: [`FEWEST_IN_LANES`]. Returns the
+    /// offset of their end.
     pub(crate) fn read(&mut self, issuer: &Issuer, text: &[u8], from: usize) -> usize
         requires { from ≤ length text.now }
         ensures next { AreNext text.now from self.new.entries result }
         ensures found { AreLookedUp issuer.now self.new }
         ensures none { self.new.entries ≡ [] → (count : ℕ) → IsLineAhead (drop from text.now) count
             → IsNoRecord (take count (drop from text.now)) }
+        ensures made { FEWEST_IN_LANES ≤ answers_at (answer_of issuer.now) self.new.entries self.new.found
+            → self.new.made ≡ length self.new.entries }
     {
         self.entries.clear();
         self.found.clear();
@@ -142,7 +154,8 @@ impl Ahead {
 /// Adds the answers of records, for which this was looked up, to none.
 fn add_answers(issuer: &Issuer, entries: &[Entry], found: &LinesAhead, batch: &mut AnswerBatch)
     requires { AllZip (IsLookedUp issuer.now) entries.now found.now }
-    ensures { length batch.new ≡ length entries.now }
+    ensures all { length batch.new.answers ≡ length entries.now }
+    ensures count { batch.new.count ≡ answers_at (answer_of issuer.now) entries.now found.now }
 {
     batch.clear();
     for index in 0..found.len() {

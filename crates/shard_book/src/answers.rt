@@ -19,7 +19,7 @@ pub fn add_answer(
     batch: &mut AnswerBatch,
 )
     requires found { IsLookedUp issuer.now entry.now found.now }
-    requires room { length batch.old < 128 }
+    requires room { length batch.old.answers < 128 }
     ensures { batch.new ≡ with_answer (answer_of issuer.now entry.now found.now) batch.old }
 {
     let answer = match (entry, found) {

@@ -1,14 +1,18 @@
 -- Whole lines of a feed that were read ahead of their turns. A line is given without its newline.
-use Rattle.std.specs.Prelude.{◌≡◌, ◌⊎◌, ℕ, ◌<◌, List, [], length, Result, Err}
+use Rattle.std.specs.Prelude.{◌≡◌, ◌⊎◌, ℕ, ◌<◌, ◌≤◌, List, [], length, Option, None, Result, Err}
 use Rattle.std.specs.List.{AllByRecursion, AllZip}
 use Rattle.issuer_base.specs.declared.answer.Refusal.{Refusal}
 use Rattle.issuer_base.specs.declared.answer.Refusal.TheVariants.{UnknownCard}
 use Rattle.issuer_base.specs.declared.entry.Entry.{Entry}
+use Rattle.arpc_methods.specs.Batch.{answers_at}
+use Rattle.arpc_methods.specs.declared.ahead.AnswerParts.{AnswerParts}
+use Rattle.arpc_methods.specs.declared.batch.TheConstants.{FEWEST_IN_LANES}
 use Rattle.issuer_setup.specs.IssuerSetup.{Setup}
 use Rattle.journal_rec.specs.Record.{IsLineOf, IsRecord}
 use Rattle.journal_rec.specs.RecordText.{text_of}
 use Rattle.line_checks.specs.declared.looked_up.LookedUp.{LookedUp}
 use Rattle.line_reader.specs.Lines.{IsUnbroken}
+use Rattle.shard_book.specs.Answers.{answer_of}
 use Rattle.shard_book.specs.Taking.{IsReadRecord}
 use Rattle.standby_node.specs.declared.feed_lines.FeedLines.{FeedLines}
 use Rattle.standby_node.specs.declared.line.ReadLine.{ReadLine}
@@ -77,3 +81,16 @@ IsReady issuer line found = found ≡ Err UnknownCard
 -- so it is of each line that was read ahead
 abbrev pub AreReady : Setup → FeedLines → Type 0
 AreReady issuer ahead = AllZip (IsReady issuer) ahead.lines.items ahead.found.items
+
+-- ---- what is made ahead of their turns
+
+-- what the issuer authentication data of a line's record are made of, if it has one that they are made of
+abbrev pub answer_of_line : Setup → ReadLine → Result LookedUp Refusal → Option AnswerParts
+answer_of_line issuer (Record shard place entry) found = answer_of issuer entry found
+answer_of_line issuer line found = None
+
+-- with enough answers their data are made: those of each line, by its index
+abbrev pub AreMade : Setup → FeedLines → Type 0
+AreMade issuer ahead =
+    FEWEST_IN_LANES ≤ answers_at (answer_of_line issuer) ahead.lines.items ahead.found.items
+    → ahead.answers.made ≡ length ahead.lines.items

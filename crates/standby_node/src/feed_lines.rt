@@ -1,5 +1,5 @@
 //! Whole lines of a feed that are read ahead of their turns.
-ghost use Rattle.std.specs.Prelude.{◌≡◌, ◌↔◌, ◌<◌, ◌≤◌, [], ◌∷◌, ◌++◌, length, vec_capacity, IfOk, IsTrue};
+ghost use Rattle.std.specs.Prelude.{◌≡◌, ◌↔◌, ◌<◌, ◌≤◌, [], ◌∷◌, ◌++◌, length, vec_capacity, IfOk, IsSome, IsTrue};
 ghost use Rattle.line_checks.specs.declared.lines_ahead.TheConstants.{MOST_AHEAD};
 ghost use Rattle.standby_node.specs.KeptTexts.{HaveTexts};
 
@@ -36,7 +36,7 @@ impl FeedLines {
     ghost use Rattle.line_reader.specs.Lines.{ended};
     ghost use Rattle.standby_node.specs.declared.line.ReadLine.{ReadLine};
     ghost use Rattle.standby_node.specs.KeptTexts.{HasText};
-    ghost use Rattle.standby_node.specs.ReadLines.{AreReady, IsFormed, IsNoneAhead};
+    ghost use Rattle.standby_node.specs.ReadLines.{AreMade, AreReady, IsFormed, IsNoneAhead};
 
     /// No lines. Only this call allocates.
     pub fn new(alloc: Global) -> Result<FeedLines, NoMemory>
@@ -75,7 +75,9 @@ impl FeedLines {
     }
 
     /// The issuer authentication data that were made for the record of the line at this index, if they were.
-    pub(crate) fn made(&self, place: usize) -> Option<MadeAhead> {
+    pub(crate) fn made(&self, place: usize) -> Option<MadeAhead>
+        ensures { IsSome result ↔ (place < self.now.answers.made) }
+    {
         self.answers.get(place)
     }
 
@@ -101,12 +103,14 @@ impl FeedLines {
         self.lines.push_reserved(line);
     }
 
-    /// Checks the cryptograms of the requests together, and makes the issuer authentication data of their records.
+    /// Checks the cryptograms of the requests together, and makes the issuer authentication data of their records, if
+    /// there are enough of them.
     pub(crate) fn check(&mut self, issuer: &Issuer)
         requires ready { AreReady issuer.now self.old }
         requires few { length self.old.lines.items ≤ MOST_AHEAD }
         ensures ready { AreReady issuer.now self.new }
         ensures lines { self.new.lines.items ≡ self.old.lines.items }
+        ensures made { AreMade issuer.now self.new }
     {
         check_in_lanes(issuer, self.found.as_mut_slice());
         add_answers(

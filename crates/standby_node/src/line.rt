@@ -1,6 +1,7 @@
 //! One whole line of a feed, taken into the shards of a node.
-ghost use Rattle.std.specs.Prelude.{◌≡◌, ℕ, ◌+◌, ◌<◌, ◌≤◌, Bool, List, length};
+ghost use Rattle.std.specs.Prelude.{◌≡◌, ℕ, ◌<◌, ◌≤◌, Bool, List, length};
 ghost use Rattle.std.specs.List.{AllZip};
+ghost use Rattle.arpc_methods.specs.Batch.{answers_at, with_answer};
 ghost use Rattle.line_checks.specs.declared.lines_ahead.TheConstants.{MOST_AHEAD};
 ghost use Rattle.issuer_base.specs.declared.entry.Entry.{Entry};
 ghost use Rattle.host_loading.specs.Hosts.{AreShards};
@@ -12,7 +13,7 @@ ghost use Rattle.line_reader.specs.Lines.{ended};
 ghost use Rattle.feed_text.specs.declared.limits.TheConstants.{MOST_FEED_BYTES};
 ghost use Rattle.standby_node.specs.OneLine.{Does, TakesAt, has_failed};
 ghost use Rattle.standby_node.specs.KeptTexts.{HasText};
-ghost use Rattle.standby_node.specs.ReadLines.{IsFormed, IsReadAs, IsReady};
+ghost use Rattle.standby_node.specs.ReadLines.{IsFormed, IsReadAs, IsReady, answer_of_line};
 ghost use Rattle.standby_node.specs.Standing.{Hold, KeepsShards, LeavesBetween};
 
 use arpc_methods::{AnswerBatch, MadeAhead};
@@ -144,7 +145,8 @@ pub(crate) fn add_answers(
 )
     requires ready { AllZip (IsReady issuer.now) lines.now found.now }
     requires few { length lines.now ≤ MOST_AHEAD }
-    ensures { length batch.new ≡ length lines.now }
+    ensures all { length batch.new.answers ≡ length lines.now }
+    ensures count { batch.new.count ≡ answers_at (answer_of_line issuer.now) lines.now found.now }
 {
     batch.clear();
     for (i, line) in lines.iter().enumerate() {
@@ -160,8 +162,8 @@ fn add_answer_of(
     batch: &mut AnswerBatch,
 )
     requires line { IsReady issuer.now line.now found.now }
-    requires room { length batch.old < 128 }
-    ensures { length batch.new ≡ length batch.old + 1 }
+    requires room { length batch.old.answers < 128 }
+    ensures { batch.new ≡ with_answer (answer_of_line issuer.now line.now found.now) batch.old }
 {
     match line {
         ReadLine::Record { entry, .. } => add_answer(issuer, entry, found, batch),

@@ -2,4 +2,5 @@
 pub mod Fronts
 pub mod Headers
 pub mod Texts
+pub mod Covering
 pub mod Written

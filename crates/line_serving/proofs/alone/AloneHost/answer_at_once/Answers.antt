@@ -7,7 +7,7 @@ pub returns-clause-taken : goal.returns-clause-taken
 returns-clause-taken g c = λ first lines text waiting so_far.
     takes-alone first c.args.self.now _ _ _ _ c.authorise-answer.result c.requires.none c.requires.none c.add.ensures.text
     c.authorise-answer.ensures.issuer c.authorise-answer.ensures.turn
-    c.authorise-answer.ensures.crash lines text waiting so_far
+    c.authorise-answer.ensures.leaves lines text waiting so_far
 
 pub returns-clause-recorded : goal.returns-clause-recorded
 returns-clause-recorded g c =

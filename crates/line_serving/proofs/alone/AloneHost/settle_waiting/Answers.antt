@@ -52,7 +52,7 @@ loop-index-preserved g c =
     record {
       settling = λ first lines text waiting so_far.
           settling-more first (from-place c.loop-index.self c.loop-index.index) _ c.unwrap-found.result.now c.answer-answer.result parted
-          c.answer-answer.ensures.issuer c.answer-answer.ensures.turn c.answer-answer.ensures.crash
+          c.answer-answer.ensures.issuer c.answer-answer.ensures.turn c.answer-answer.ensures.leaves
           c.args.block.now.text.items c.loop-index.block.text.items c.add.new.self.text.items c.add.ensures.text
           lines text waiting (before.settling first lines text waiting so_far);
       looked_up = (

@@ -3,6 +3,7 @@ use Rattle.std.proofs.Common.{◌≡◌, ℕ, ◌+◌, ◌≤◌, List, Result, 
 use Rattle.std.specs.Result.{result_map_both}
 use Rattle.std.proofs.lemmas.Option.{slice_get_read}
 use Rattle.issuer_base.specs.declared.request.Request.{Request}
+use Rattle.issuer_base.specs.declared.answer.Answer.TheVariants.{Refused}
 use Rattle.issuer_base.specs.declared.answer.Refusal.{Refusal}
 use Rattle.card_history.specs.Records.{card_of}
 use Rattle.card_history.specs.declared.decision.Asked.{Asked}
@@ -25,8 +26,9 @@ use Rattle.host_loading.specs.Books.{ShardBook}
 use Rattle.host_loading.specs.Hosts.{Stand}
 use Rattle.host_loading.specs.StoreRoom.{HaveRoom}
 use Rattle.one_caller.specs.Room.{added_at, added_by}
+use Rattle.one_caller.specs.Runs.{LeavesAnswering}
 use Rattle.one_caller.specs.Turns.{Turn}
-use Rattle.one_caller.proofs.OneShard.{IsCalled, card-at_home, shards-after, turn-after, crash-after, leave-uncalled}
+use Rattle.one_caller.proofs.OneShard.{IsCalled, card-at_home, shards-after, turn-after, crash-after, tails-after, leaves-uncalled_by}
 use Rattle.one_caller.proofs.Rooms.{checked-no_fault, read-no_fault, room-after, room-uncalled}
 use Rattle.one_caller.proofs.solo.Solo.answer.Given.{Over}
 use Rattle.one_caller.proofs.solo.Solo.answer.Goals.{After-answer}
@@ -88,8 +90,21 @@ returns-in-Ok-Order-clause-turn g c line looked_up =
     → (after : List ShardBook) × Stand new.issuer new.shards.items after × Turn host.issuer books says c.order.result after)
     (sym its.0) c.order.ensures.turn
 
-pub returns-in-Err-clause-crash : goal.returns-in-Err-clause-crash
-returns-in-Err-clause-crash g c = leave-uncalled c.args.self.now.issuer c.args.self.now.shards.items c.args.self.now.are_shards
+pub returns-in-Ok-Order-clause-leaves : goal.returns-in-Ok-Order-clause-leaves
+returns-in-Ok-Order-clause-leaves g c line looked_up =
+    let host = c.args.self.now in
+    let new = c.order.new.self in
+    let field_is = rw c.in-Ok-Order.is at c.in-Ok-Order.field-0-is in
+    let its = subst (IsLookUp host.issuer line) (c.in-Ok-Order.is ∙ ap (λ (sought : LookedUp). Ok sought) field_is) looked_up in
+    subst (λ (says : Result Asked Refusal). (books : List ShardBook) → Stand host.issuer host.shards.items books
+    → LeavesAnswering host.issuer says c.order.result books host.shards.items new.shards.items)
+    (sym its.0) c.order.ensures.leaves
+
+pub returns-in-Err-clause-leaves : goal.returns-in-Err-clause-leaves
+returns-in-Err-clause-leaves g c line looked_up books stand =
+    let host = c.args.self.now in
+    let its = subst (IsLookUp host.issuer line) c.in-Err.is looked_up in
+    leaves-uncalled_by host.issuer host.shards.items host.are_shards (reading host.issuer line) c.in-Err.refusal its.0 (Refused c.in-Err.refusal) books stand
 
 pub returns-in-Err-clause-room : goal.returns-in-Err-clause-room
 returns-in-Err-clause-room g c line looked_up spare have =
@@ -100,8 +115,15 @@ returns-in-Err-clause-room g c line looked_up spare have =
     (sym read) have in
     (read-no_fault host.issuer line c.in-Err.refusal read, room-uncalled host.shards.items spare none)
 
-pub returns-in-Err-checked-clause-crash : goal.returns-in-Err-checked-clause-crash
-returns-in-Err-checked-clause-crash g c = leave-uncalled c.args.self.now.issuer c.args.self.now.shards.items c.args.self.now.are_shards
+pub returns-in-Err-checked-clause-leaves : goal.returns-in-Err-checked-clause-leaves
+returns-in-Err-checked-clause-leaves g c line looked_up books stand =
+    let host = c.args.self.now in
+    let refused = says host.issuer c.in-Ok-Request.sought.request c.check-checked.result (Err c.in-Err-checked.refusal) c.in-Err-checked.is
+    c.check-checked.ensures.request in
+    let field_is = rw c.in-Ok-Request.is at c.in-Ok-Request.field-0-is in
+    let asks = asks host.issuer line c.args.found.now c.in-Ok-Request.field-0 c.in-Ok-Request.sought c.in-Ok-Request.is field_is looked_up in
+    leaves-uncalled_by host.issuer host.shards.items host.are_shards (reading host.issuer line) c.in-Err-checked.refusal (asks ∙ sym refused)
+    (Refused c.in-Err-checked.refusal) books stand
 
 pub returns-in-Err-checked-clause-room : goal.returns-in-Err-checked-clause-room
 returns-in-Err-checked-clause-room g c line looked_up spare have =
@@ -146,8 +168,17 @@ returns-clause-turn g c line looked_up =
     → (after : List ShardBook) × Stand host.issuer new after × Turn host.issuer books says c.answer.result after)
     (asked g after line looked_up) (turn-after host.are_shards (call g after))
 
-pub returns-clause-crash : goal.returns-clause-crash
-returns-clause-crash g c = crash-after c.args.self.now.are_shards (call g (goal.at.returns-clause-crash g c).After-answer)
+pub returns-clause-leaves : goal.returns-clause-leaves
+returns-clause-leaves g c line looked_up books stand =
+    let after = (goal.at.returns-clause-leaves g c).After-answer in
+    let host = c.args.self.now in
+    let new = slice_set host.shards.items c.home-shard.result c.answer.new.self in
+    let called = call g after in
+    subst (λ (says : Result Asked Refusal). LeavesAnswering host.issuer says c.answer.result books host.shards.items new) (asked g after line looked_up)
+    (record {
+      crash = crash-after host.are_shards called books stand;
+      tails = tails-after host.are_shards called books stand (Decide c.in-Ok.found.request) refl c.answer.ensures.tail;
+    })
 
 pub returns-clause-room : goal.returns-clause-room
 returns-clause-room g c line looked_up spare have =

@@ -28,5 +28,7 @@ returns-clause-room g c =
     rw (← c.look_ahead-found.ensures.same.0, ← c.look_ahead-found.ensures.same.1)
     (c.answer.ensures.room c.args.line.now (looked_up g (goal.at.returns-clause-room g c).After-look_ahead-found))
 
-pub returns-clause-crash : goal.returns-clause-crash
-returns-clause-crash g c = rw (← c.look_ahead-found.ensures.same.0, ← c.look_ahead-found.ensures.same.1) c.answer.ensures.crash
+pub returns-clause-leaves : goal.returns-clause-leaves
+returns-clause-leaves g c =
+    rw (← c.look_ahead-found.ensures.same.0, ← c.look_ahead-found.ensures.same.1)
+    (c.answer.ensures.leaves c.args.line.now (looked_up g (goal.at.returns-clause-leaves g c).After-look_ahead-found))

@@ -1,17 +1,18 @@
 -- An order is answered in the shard of its card.
 use Rattle.std.proofs.Common.{◌≡◌, ℕ, ◌+◌, ◌%◌, ◌≤◌, length-set, vec_capacity, Some, refl, ap, sym, subst, ◌∙◌}
+use Rattle.issuer_base.specs.declared.entry.Entry.{Entry}
 use Rattle.issuer_setup.specs.CardList.{number_of}
 use Rattle.std.proofs.lemmas.Option.{slice_get_read}
 use Rattle.line_checks.proofs.Numbers.{number-within}
 use Rattle.line_checks.proofs.Orders.{order-card}
 use Rattle.line_checks.specs.AtHand.{order_asked}
-use Rattle.shard_book.specs.Answering.{is_store_fault}
+use Rattle.shard_book.specs.Answering.{is_store_fault, LeavesTail}
 use Rattle.shard_book.specs.Room.{UsesRoom}
 use Rattle.host_loading.specs.StoreRoom.{HaveRoom}
 use Rattle.one_caller.specs.Room.{added_at, most_asked}
 use Rattle.one_caller.specs.Turns.{card_asked, AnswersAsked}
-use Rattle.one_caller.proofs.OneShard.{IsCalled, card-at_home, shards-after, turn-after, crash-after}
-use Rattle.one_caller.proofs.Orders.{order-asked_card, order-answers, order-most}
+use Rattle.one_caller.proofs.OneShard.{IsCalled, card-at_home, shards-after, turn-after, crash-after, tails-after}
+use Rattle.one_caller.proofs.Orders.{order-asked_card, order-answers, order-most, order-record}
 use Rattle.host_loading.proofs.Places.{write-same}
 use Rattle.one_caller.proofs.Rooms.{room-after}
 use Rattle.one_caller.proofs.solo.Solo.order.Given.{Over}
@@ -61,8 +62,17 @@ invariant_of-self-clause-room g c =
 pub returns-clause-turn : goal.returns-clause-turn
 returns-clause-turn g c = turn-after c.args.self.now.are_shards (call g (goal.at.returns-clause-turn g c).After-order)
 
-pub returns-clause-crash : goal.returns-clause-crash
-returns-clause-crash g c = crash-after c.args.self.now.are_shards (call g (goal.at.returns-clause-crash g c).After-order)
+pub returns-clause-leaves : goal.returns-clause-leaves
+returns-clause-leaves g c books stand =
+    let issuer = c.args.self.now.issuer in
+    let order = c.args.found.now in
+    let called = call g (goal.at.returns-clause-leaves g c).After-order in
+    record {
+      crash = crash-after c.args.self.now.are_shards called books stand;
+      tails = tails-after c.args.self.now.are_shards called books stand (order_asked order) refl (λ history tail stands has.
+          subst (λ (entry : Entry). LeavesTail entry history tail c.order.result c.order.new.self) (order-record issuer history order)
+          (c.order.ensures.tail history tail has));
+    }
 
 pub returns-clause-unchanged : goal.returns-clause-unchanged
 returns-clause-unchanged g c idle =
