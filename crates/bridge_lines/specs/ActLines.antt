@@ -4,7 +4,7 @@ use Rattle.bridge_lines.specs.declared.action.Why.{Why}
 use Rattle.bridge_lines.specs.declared.action.Why.TheVariants.{Diverged, BadLine, OutOfTurn, NoRoom}
 use Rattle.bridge_lines.specs.Texts.{Said, SaysBarrier, SaysRecords, SaysMark, text_of, ended, feed_line, barrier_words}
 use Rattle.bridge_lines.specs.Acts.{Act, Put, Cut, PublishBarrier, PublishRecords, PublishMark, PublishNothing, Position, Count, Ready, Begin}
-use Rattle.bridge_lines.specs.Acts.{End, Reply, Stop}
+use Rattle.bridge_lines.specs.Acts.{End, Reply, Stop, Over}
 
 -- how many lines a message's text has
 abbrev pub line_count : Said → ℕ
@@ -44,3 +44,4 @@ lines_of Begin = ended (codes "begin")
 lines_of End = ended (codes "end")
 lines_of (Reply number) = ended (codes "reply" ++ 32 ∷ decimal number)
 lines_of (Stop why) = ended (codes "stop" ++ 32 ∷ why_word why)
+lines_of Over = ended (codes ".")

@@ -33,6 +33,8 @@ pub data Act : Type 0 where
   Reply : (number : ℕ) → Act
   -- stop the partition
   Stop : (why : Why) → Act
+  -- the turn is over
+  Over : Act
 
 -- the message that is written
 abbrev pub published : Message → Act
@@ -53,3 +55,4 @@ act_of of.Begin = Begin
 act_of of.End = End
 act_of (of.Reply number) = Reply number
 act_of (of.Stop why) = Stop why
+act_of of.Over = Over

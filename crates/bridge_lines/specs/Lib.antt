@@ -3,6 +3,7 @@ pub mod Views
 pub mod Parts
 pub mod Texts
 pub mod Reading
+pub mod Starts
 pub mod Messages
 pub mod News
 pub mod TurnReading

@@ -68,6 +68,8 @@ pub enum Action<'a> {
     Reply(u64),
     /// Stop the partition.
     Stop(Why),
+    /// The turn is over.
+    Over,
 }
 
 impl Why {
@@ -106,6 +108,7 @@ impl<'a> Action<'a> {
             Action::End => write_line(out, b"end"),
             Action::Reply(number) => write_reply(out, *number),
             Action::Stop(why) => write_words(out, b"stop", why.word()),
+            Action::Over => write_line(out, b"."),
         }
     }
 }

@@ -106,6 +106,8 @@ fn count_in(words: &[u8]) -> Option<Counted>
 }
 
 impl Beginning {
+    ghost use Rattle.bridge_lines.specs.Starts.{start_of, given_to};
+
     /// No barrier counts, and no record.
     pub fn new() -> Beginning
         ensures machine { result.machine.items ≡ [] }
@@ -122,6 +124,7 @@ impl Beginning {
     /// What a line gives comes in place of what was given before. A position begins anew.
     pub fn take(&mut self, given: Given)
         requires { IsGivenWithin given }
+        ensures { start_of self.new ≡ given_to (start_of self.old) given }
     {
         match given {
             Given::Position(opening) => {

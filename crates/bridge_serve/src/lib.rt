@@ -4,8 +4,13 @@
 #![tactic(auto)]
 
 mod desk;
+mod ended;
+mod output;
 mod printer;
 mod server;
 mod window;
 
-pub use server::{Ended, serve};
+pub use ended::Ended;
+pub use output::Output;
+pub use printer::Printer;
+pub use server::{Served, serve, serve_to};

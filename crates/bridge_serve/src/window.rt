@@ -1,5 +1,7 @@
 //! The bytes of the input that are read and not taken yet.
-ghost use Rattle.std.specs.Prelude.{◌≡◌, ◌-◌, ◌<◌, ◌≤◌, ◌↔◌, length, IsTrue};
+ghost use Rattle.std.specs.Prelude.{◌≡◌, ◌<◌, ◌≤◌, ◌↔◌, [], length, drop, IsTrue, IfOk, MatchResult, is_err};
+ghost use Rattle.std.specs.Io.KnownBytes.{Keeps};
+ghost use Rattle.issuer_base.specs.OutsideFaults.{CountsFaults};
 ghost use Rattle.bridge_serve.specs.declared.window.TheConstants.{WINDOW_BYTES};
 
 use issuer_base::{NoMemory, ReadFault, Source};
@@ -20,8 +22,12 @@ pub struct Window {
 }
 
 impl Window {
+    ghost use Rattle.bridge_serve.specs.Reading.{ahead_of, ReadsMore};
+
     /// No bytes, and room for [`WINDOW_BYTES`]. No other call allocates.
-    pub fn new(alloc: Global) -> Result<Window, NoMemory> {
+    pub fn new(alloc: Global) -> Result<Window, NoMemory>
+        ensures { IfOk result (λ window. ahead_of window ≡ []) }
+    {
         Ok(Window {
             bytes: vec![in alloc; 0; WINDOW_BYTES]?,
             start: 0,
@@ -31,28 +37,34 @@ impl Window {
 
     /// The bytes.
     pub fn ahead(&self) -> &[u8]
-        ensures { length result.now ≡ self.now.end - self.now.start }
+        ensures bytes { result.now ≡ ahead_of self.now }
+        ensures within { length (ahead_of self.now) ≤ WINDOW_BYTES }
     {
         &self.bytes[self.start..self.end]
     }
 
     /// Takes the first bytes, so many.
     pub fn pass(&mut self, count: usize)
-        requires { count ≤ self.old.end - self.old.start }
+        requires { count ≤ length (ahead_of self.old) }
+        ensures { ahead_of self.new ≡ drop count (ahead_of self.old) }
     {
         self.start += count;
     }
 
     /// Whether there is room for more.
     pub fn has_room(&self) -> bool
-        ensures { IsTrue result ↔ (self.now.end - self.now.start < WINDOW_BYTES) }
+        ensures { IsTrue result ↔ (length (ahead_of self.now) < WINDOW_BYTES) }
     {
         self.end - self.start < WINDOW_BYTES
     }
 
     /// Reads more bytes. None is the end of the input.
     pub fn fill<S: Source>(&mut self, source: &mut S) -> Result<usize, ReadFault>
-        requires { self.old.end - self.old.start < WINDOW_BYTES }
+        requires { length (ahead_of self.old) < WINDOW_BYTES }
+        ensures bytes { MatchResult result
+            (λ count. ReadsMore (S.left source.old) (S.left source.new) (ahead_of self.old) (ahead_of self.new) count)
+            (λ _. Keeps (S.left source.old) (S.left source.new) × (ahead_of self.new ≡ ahead_of self.old)) }
+        ensures count { CountsFaults (S.faults source.old) (S.faults source.new) (is_err result) }
     {
         self.move_to_front();
         let count = source.read(&mut self.bytes[self.end..])?;
@@ -62,7 +74,9 @@ impl Window {
 
     /// Moves the bytes to the start of the room.
     fn move_to_front(&mut self)
-        ensures { self.new.end ≡ self.old.end - self.old.start }
+        ensures bytes { ahead_of self.new ≡ ahead_of self.old }
+        ensures start { self.new.start ≡ 0 }
+        ensures end { self.new.end ≡ length (ahead_of self.old) }
     {
         self.bytes.copy_within(self.start..self.end, 0);
         self.end -= self.start;

@@ -1,5 +1,6 @@
 -- One more of numbers that follow one another.
-use Rattle.std.proofs.Common.{◌≡◌, ℕ, ◌+◌, ◌<◌, ◌≤◌, zero, suc, List, [], ◌∷◌, ◌++◌, length, take, set, map, ap, sym, ◌∙◌, arith, add-one, zero-add, append_assoc}
+use Rattle.std.proofs.Common.{◌≡◌, ℕ, ◌+◌, ◌<◌, ◌≤◌, zero, suc, List, [], ◌∷◌, ◌++◌, length, take, set, map, ap, sym, ◌∙◌, arith, add-one, zero-add}
+use Rattle.std.proofs.Common.{append_assoc}
 use Rattle.std.specs.List.{flat_map, range_with_len}
 use Rattle.std.proofs.lemmas.List.{flat_map_more, take_more_set, take_all}
 use Rattle.std.proofs.lemmas.List.FromFn.{map-range_with_len_more}

@@ -1,5 +1,6 @@
 -- Records are published in messages that the machine may make.
-use Rattle.std.proofs.Common.{◌≡◌, ℕ, zero, suc, ◌-◌, ◌==◌, ◌≤◌, Bool, true, false, List, [], ◌∷◌, ◌++◌, length, map, max, nat_lt, Option, Some, None, refl, sym, ◌∙◌, subst, append_assoc, if◌then◌else◌, arith}
+use Rattle.std.proofs.Common.{◌≡◌, ℕ, zero, suc, ◌-◌, ◌==◌, ◌≤◌, Bool, true, false, List, [], ◌∷◌, ◌++◌, length, map, max, nat_lt, Option, Some, None, refl}
+use Rattle.std.proofs.Common.{sym, ◌∙◌, subst, append_assoc, if◌then◌else◌, arith}
 use Rattle.std.specs.List.{AllByRecursion, Contains, flat_map, slice_get, slice_index, range_with_len}
 use Rattle.std.proofs.lemmas.Bool.{cond-false, ltb-false, ne_eqb}
 use Rattle.std.proofs.lemmas.List.{append-nil}

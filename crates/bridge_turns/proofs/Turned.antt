@@ -1,5 +1,6 @@
 -- Each turn is a run of events.
-use Rattle.std.proofs.Common.{◌≡◌, ℕ, ◌+◌, ◌==◌, ◌<◌, Bool, true, false, List, [], ◌∷◌, ◌++◌, length, take, map, None, refl, ap, sym, ◌∙◌, append_assoc, if◌then◌else◌}
+use Rattle.std.proofs.Common.{◌≡◌, ℕ, ◌+◌, ◌==◌, ◌<◌, Bool, true, false, List, [], ◌∷◌, ◌++◌, length, take, map, None, refl, ap, sym, ◌∙◌, append_assoc}
+use Rattle.std.proofs.Common.{if◌then◌else◌}
 use Rattle.std.specs.List.{All, flat_map, range_with_len, slice_index}
 use Rattle.std.proofs.lemmas.Bool.{eqb-true, eqb-false}
 use Rattle.one_history.specs.Streams.{Text, Word, Indexed, OfBarrier, OfRecords, OfMark, OfNothing, is_word, is_barrier}
@@ -33,7 +34,8 @@ use Rattle.bridge_turns.specs.Turns as turns
 use Rattle.bridge_turns.specs.Laws.{Stands, AcceptsMessage, all_carried, AreOfMade, Does, gone_at, IsTurn}
 use Rattle.bridge_turns.proofs.Ways.{AreQuiet, nothing-quiet, quiet-append, carried-append, made-append, says-quiet, happens, joined}
 use Rattle.bridge_turns.proofs.Releasing.{releases-way}
-use Rattle.bridge_turns.proofs.Turning.{serves-is, either, either-went, ready-quiet, none-made, read-journals, read-made, unchanged-way, has-turn, told-turn, parts-way, connected-turn, called-turn, ended-turn, loaded-turn, answered-turn, again-turn}
+use Rattle.bridge_turns.proofs.Turning.{serves-is, either, either-went, ready-quiet, none-made, read-journals, read-made, unchanged-way, has-turn, told-turn}
+use Rattle.bridge_turns.proofs.Turning.{parts-way, connected-turn, called-turn, ended-turn, loaded-turn, answered-turn, again-turn}
 
 -- ---- a barrier
 

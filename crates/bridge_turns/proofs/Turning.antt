@@ -1,5 +1,6 @@
 -- Each turn is a run of events.
-use Rattle.std.proofs.Common.{◌≡◌, ℕ, ◌+◌, ◌-◌, ◌==◌, ◌<◌, ◌≤◌, ◌&&◌, Bool, true, false, List, [], ◌∷◌, ◌++◌, length, Option, Some, None, refl, ap, sym, ◌∙◌, subst, if◌then◌else◌, arith}
+use Rattle.std.proofs.Common.{◌≡◌, ℕ, ◌+◌, ◌-◌, ◌==◌, ◌<◌, ◌≤◌, ◌&&◌, Bool, true, false, List, [], ◌∷◌, ◌++◌, length, Option, Some, None, refl, ap, sym, ◌∙◌}
+use Rattle.std.proofs.Common.{subst, if◌then◌else◌, arith}
 use Rattle.std.specs.List.{AllByRecursion, Contains, flat_map, range_with_len}
 use Rattle.std.proofs.lemmas.List.{append-nil, take_all}
 use Rattle.std.proofs.lemmas.List.Elements.{Contains-push}
@@ -13,7 +14,8 @@ use Rattle.bridge_rule.specs.declared.role.Role.{Role}
 use Rattle.bridge_rule.specs.declared.role.Role.TheVariants.{Untold, Following, Beginning, Serving}
 use Rattle.bridge_rule.specs.Openings.{barrier_of}
 use Rattle.bridge_rule.specs.Logs.{LogState, known_of}
-use Rattle.bridge_rule.specs.Bridges.{IsKnown, IsServing, IsLearning, IsFollowing, WaitsForKnown, log_at, told_bridge, parted_role, told_role, with_held, serves, follows, is_told, waited_for, places_of}
+use Rattle.bridge_rule.specs.Bridges.{IsKnown, IsServing, IsLearning, IsFollowing, WaitsForKnown, log_at, told_bridge, parted_role, told_role, with_held}
+use Rattle.bridge_rule.specs.Bridges.{serves, follows, is_told, waited_for, places_of}
 use Rattle.bridge_rule.specs.Events.{IsNext, KnowsAll, IsNextKnown, ReadsMessage, DoesLearn, DoesHold, answer_at, one_more}
 use Rattle.bridge_rule.proofs.Standing.{machine-here}
 use Rattle.bridge_rule.proofs.Learning.{learns}
@@ -30,7 +32,8 @@ use Rattle.bridge_turns.specs.Laws.{IsMade, Stands, Does, went}
 use Rattle.bridge_turns.proofs.Ways.{places-append, AreQuiet, nothing-quiet, says-quiet, stays, happens, joined, no-replies}
 use Rattle.bridge_turns.proofs.Releasing.{releases-way, serving-made}
 use Rattle.bridge_turns.proofs.Standings.{stands-told, stands-called}
-use Rattle.bridge_turns.proofs.Spoken.{speaks, events_of, may-publish, published-machines, published-sent, published-stands, published-made, said-quiet, knows-news, served-name}
+use Rattle.bridge_turns.proofs.Spoken.{speaks, events_of, may-publish, published-machines, published-sent, published-stands, published-made, said-quiet}
+use Rattle.bridge_turns.proofs.Spoken.{knows-news, served-name}
 
 -- ---- roles
 
@@ -191,7 +194,8 @@ parted-waits (Serving own) = refl
 pub none-made : (own : Option Opening) (world : World) → own ≡ None → IsMade own world
 none-made own world is = subst (λ (o : Option Opening). IsMade o world) (sym is) tt
 
-parts-said : (test : Bool) (outcome : Outcome) → (if test then says outcome (EndHost ∷ []) else outcome).said ≡ outcome.said ++ (if test then EndHost ∷ [] else [])
+parts-said : (test : Bool) (outcome : Outcome)
+    → (if test then says outcome (EndHost ∷ []) else outcome).said ≡ outcome.said ++ (if test then EndHost ∷ [] else [])
 parts-said true outcome = refl
 parts-said false outcome = sym (append-nil outcome.said)
 
@@ -216,7 +220,8 @@ parts-way outcome link world stands =
       made = none-made (waited_for (parted_role bridge.role)) (next world (Part name)) (parted-waits bridge.role);
       quiet = parts-begun (serves bridge.role) outcome ∙ stands.quiet;
     })
-    (λ shard. ap (λ (m : Machine). m.journals shard) (machine-here world name (record (world.machines name) { stage = Follows; held = [] })) ∙ sym (quiet.carry shard ((world.machines name).journals shard)))
+    (λ shard. ap (λ (m : Machine). m.journals shard) (machine-here world name (record (world.machines name) { stage = Follows; held = [] }))
+    ∙ sym (quiet.carry shard ((world.machines name).journals shard)))
     (quiet.make (next world (Part name))) refl
 
 pub connected-turn : (state : PartitionState) (link : Link) (word : Word) (world : World) (said : List Act) → Stands state world
@@ -245,7 +250,8 @@ called-turn state name world said stands can =
       made = made;
       quiet = stands.quiet;
     })
-    (λ shard. ap (λ (m : Machine). m.journals shard) (machine-here world bridge.machine (calls (world.machines bridge.machine) (barrier_of own)))) (made, tt) refl)
+    (λ shard. ap (λ (m : Machine). m.journals shard) (machine-here world bridge.machine (calls (world.machines bridge.machine) (barrier_of own))))
+    (made, tt) refl)
     (λ is. stays bridge.machine outcome outcome world refl stands)
 
 pub ended-turn : (state : PartitionState) (world : World) (said : List Act) → Stands state world
@@ -265,7 +271,8 @@ ended-turn state world said stands =
     happens name outcome (with_bridge outcome (with_held bridge [])) [] world (End name keep) (sym (append-nil said)) ends.can
     (record { bridge = ends.stands; made = serving-made bridge.role (next world (End name keep)) serving; quiet = stands.quiet })
     (λ shard. ap (λ (m : Machine). m.journals shard) (machine-here world name (record machine { journals = truncated machine.journals keep; held = [] }))
-    ∙ take_all (length (machine.journals shard)) (machine.journals shard) (let same : length (machine.journals shard) ≤ length (machine.journals shard) = omega arith in same))
+    ∙ take_all (length (machine.journals shard)) (machine.journals shard)
+    (let same : length (machine.journals shard) ≤ length (machine.journals shard) = omega arith in same))
     tt refl)
     (λ is. stays name outcome outcome world refl stands)
 
@@ -415,6 +422,11 @@ pub unchanged-way : (state : PartitionState) (message : LawMessage) (world : Wor
     → Does state.bridge.machine (outcome_of state said) (outcome_of state said) [] world
 unchanged-way state message world said stands next_is reads =
     let does = reads world stands.bridge next_is in
-    happens state.bridge.machine (outcome_of state said) (outcome_of state said) [] world (Read state.bridge.machine (world.machines state.bridge.machine).journals) (sym (append-nil said)) does.can
-    (record { bridge = does.stands; made = read-made (waited_for state.bridge.role) world state.bridge.machine (world.machines state.bridge.machine).journals stands.made; quiet = stands.quiet })
+    happens state.bridge.machine (outcome_of state said) (outcome_of state said) [] world
+    (Read state.bridge.machine (world.machines state.bridge.machine).journals) (sym (append-nil said)) does.can
+    (record {
+      bridge = does.stands;
+      made = read-made (waited_for state.bridge.role) world state.bridge.machine (world.machines state.bridge.machine).journals stands.made;
+      quiet = stands.quiet;
+    })
     (λ shard. read-journals world state.bridge.machine (world.machines state.bridge.machine).journals shard) tt refl

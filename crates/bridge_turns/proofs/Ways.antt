@@ -5,11 +5,13 @@ use Rattle.std.proofs.lemmas.List.{append-nil, map-append}
 use Rattle.std.proofs.lemmas.List.Elements.{Contains-append_left}
 use Rattle.one_history.specs.Streams.{Text, Word, Message}
 use Rattle.one_history.specs.Machines.{Answer, World}
-use Rattle.one_history.specs.Events.{Event, Write, Intrude, Read, Call, Record, Look, Publish, Hold, Reply, End, Part, Keep, Crash, Copy, IsAllowed, AreAllowed, next, after}
+use Rattle.one_history.specs.Events.{Event, Write, Intrude, Read, Call, Record, Look, Publish, Hold, Reply, End, Part, Keep, Crash, Copy, IsAllowed}
+use Rattle.one_history.specs.Events.{AreAllowed, next, after}
 use Rattle.bridge_rule.specs.declared.held.Held.{Held}
 use Rattle.bridge_rule.specs.declared.held.Place.{Place}
 use Rattle.bridge_rule.specs.Bridges.{places_of, place_of, waits_for}
-use Rattle.bridge_lines.specs.Acts.{Act, Put, Cut, PublishBarrier, PublishRecords, PublishMark, PublishNothing, Position, Count, Ready, Begin, End as EndHost, Reply as SendReply, Stop}
+use Rattle.bridge_lines.specs.Acts.{Act, Put, Cut, PublishBarrier, PublishRecords, PublishMark, PublishNothing, Position, Count, Ready, Begin, End as EndHost}
+use Rattle.bridge_lines.specs.Acts.{Reply as SendReply, Stop, Over}
 use Rattle.bridge_turns.specs.Partitions.{Outcome}
 use Rattle.bridge_turns.specs.Laws.{NothingFollows, Stands, carried, all_carried, IsOfMade, AreOfMade, AreReplies, Does}
 
@@ -69,6 +71,7 @@ of-made-after events world Begin made = tt
 of-made-after events world EndHost made = tt
 of-made-after events world (SendReply number) made = tt
 of-made-after events world (Stop why) made = tt
+of-made-after events world Over made = tt
 
 pub all-made-after : (events : List Event) (world : World) (acts : List Act) → AreOfMade world acts → AreOfMade (after world events) acts
 all-made-after events world [] made = tt

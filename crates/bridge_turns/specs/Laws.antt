@@ -7,7 +7,8 @@ use Rattle.bridge_rule.specs.declared.opening.Opening.{Opening}
 use Rattle.bridge_rule.specs.declared.held.Held.{Held}
 use Rattle.bridge_rule.specs.Openings.{barrier_of}
 use Rattle.bridge_rule.specs.Logs.{known_of}
-use Rattle.bridge_rule.specs.Bridges.{BridgeState, StandsIn, IsTold, IsServing, IsLearning, WaitsForKnown, is_told, serves, waited_for, log_at, places_of, place_of, are_quiet, steps_read, logs_read, indexed}
+use Rattle.bridge_rule.specs.Bridges.{BridgeState, StandsIn, IsTold, IsServing, IsLearning, WaitsForKnown, is_told, serves, waited_for, log_at, places_of}
+use Rattle.bridge_rule.specs.Bridges.{place_of, are_quiet, steps_read, logs_read, indexed}
 use Rattle.bridge_rule.specs.Events.{IsNext, KnowsAll, IsNextKnown}
 use Rattle.bridge_lines.specs.declared.event.Event.{Event}
 use Rattle.bridge_lines.specs.declared.event.Event.TheVariants.{Has, Told, Connected, Lost, Called, Message, Loaded, Ended, Answered, Again}
@@ -15,7 +16,8 @@ use Rattle.bridge_lines.specs.declared.message.Message.{Message as AMessage}
 use Rattle.bridge_lines.specs.declared.message.Message.TheVariants as of
 use Rattle.bridge_lines.specs.declared.records.Records.{Records}
 use Rattle.bridge_lines.specs.Messages.{message_of}
-use Rattle.bridge_lines.specs.Acts.{Act, Put, Cut, PublishBarrier, PublishRecords, PublishMark, PublishNothing, Position, Count, Ready, Begin, End, Reply, Stop}
+use Rattle.bridge_lines.specs.Acts.{Act, Put, Cut, PublishBarrier, PublishRecords, PublishMark, PublishNothing, Position, Count, Ready, Begin, End, Reply}
+use Rattle.bridge_lines.specs.Acts.{Stop, Over}
 use Rattle.bridge_turns.specs.Partitions.{PartitionState, Outcome, outcome_of, gone}
 use Rattle.bridge_turns.specs.Turns.{turned}
 
@@ -94,6 +96,7 @@ carried shard Begin journal = journal
 carried shard End journal = journal
 carried shard (Reply number) journal = journal
 carried shard (Stop why) journal = journal
+carried shard Over journal = journal
 
 abbrev pub all_carried : ℕ → List Act → List Text → List Text
 all_carried shard [] journal = journal
@@ -114,6 +117,7 @@ IsOfMade world Begin = Unit {0}
 IsOfMade world End = Unit {0}
 IsOfMade world (Reply number) = Unit {0}
 IsOfMade world (Stop why) = Unit {0}
+IsOfMade world Over = Unit {0}
 
 abbrev pub AreOfMade : World → List Act → Type 0
 AreOfMade world [] = Unit {0}

@@ -12,7 +12,8 @@ use Rattle.bridge_rule.specs.declared.role.Turn.TheVariants as turn
 use Rattle.bridge_rule.specs.Openings.{barrier_of}
 use Rattle.bridge_rule.specs.Roles.{turn_of}
 use Rattle.bridge_rule.specs.Logs.{LogState, known_of}
-use Rattle.bridge_rule.specs.Bridges.{BridgeState, indexed, log_at, learned, told_bridge, with_role, parted_role, with_held, with_logs, logs_read, steps_read, opened, served_name, waited_for, serves, follows, is_told}
+use Rattle.bridge_rule.specs.Bridges.{BridgeState, indexed, log_at, learned, told_bridge, with_role, parted_role, with_held, with_logs, logs_read, steps_read}
+use Rattle.bridge_rule.specs.Bridges.{opened, served_name, waited_for, serves, follows, is_told}
 use Rattle.bridge_lines.specs.declared.event.Event.{Event}
 use Rattle.bridge_lines.specs.declared.event.Event.TheVariants.{Has, Told, Connected, Lost, Called, Message, Loaded, Ended, Answered, Again}
 use Rattle.bridge_lines.specs.declared.event.Answered.{Answered as AnAnswer}
@@ -22,7 +23,8 @@ use Rattle.bridge_lines.specs.Acts.{Act, PublishBarrier, PublishMark, Position, 
 use Rattle.bridge_turns.specs.declared.link.Link.{Link}
 use Rattle.bridge_turns.specs.declared.link.Link.TheVariants.{Away, Reading, InLine}
 use Rattle.bridge_turns.specs.Publishing.{Batch, batch_of, named, all_added, closed}
-use Rattle.bridge_turns.specs.Partitions.{Outcome, says, with_bridge, with_link, news, all_known, all_step_acts, all_count_acts, all_counts, gone, left, all_reply_acts}
+use Rattle.bridge_turns.specs.Partitions.{Outcome, says, with_bridge, with_link, news, all_known, all_step_acts, all_count_acts, all_counts, gone, left}
+use Rattle.bridge_turns.specs.Partitions.{all_reply_acts}
 
 -- ---- what several turns do
 

@@ -1,9 +1,10 @@
 //! Records that are published in messages.
-ghost use Rattle.std.specs.Prelude.{◌≡◌, true, ◌<◌, ◌++◌, [], ◌∷◌, map, vec_capacity, IfOk};
+ghost use Rattle.std.specs.Prelude.{◌≡◌, ◌<◌, ◌++◌, [], ◌∷◌, map, vec_capacity, IfOk, List};
 ghost use Rattle.bridge_rule.specs.Bridges.{indexed};
 ghost use Rattle.bridge_lines.specs.declared.limits.TheConstants.{NUMBER_END};
-ghost use Rattle.bridge_lines.specs.Acts.{PublishRecords};
+ghost use Rattle.bridge_lines.specs.Acts.{Act, PublishRecords};
 ghost use Rattle.bridge_turns.specs.Publishing.{added, closed, batch_of, named, next_sequence};
+ghost use Rattle.bridge_turns.specs.Saying.{IsBatch};
 
 use crate::speaker::Speaker;
 use bridge_lines::{Action, MAX_RECORDS, Message, NUMBER_END, Records};
@@ -54,8 +55,8 @@ impl Publisher {
 
     /// One more record. A message that is full is published.
     pub fn add<S: Speaker>(&mut self, shard: u8, index: u64, text: &Text, speaker: &mut S)
-        ensures { S.tells ≡ true → batch_of self.new (S.said speaker.new)
-            ≡ added (batch_of self.old (S.said speaker.old)) (record { shard = shard; index = index; text = text.now.items }) }
+        ensures { (start : S) (said : List Act) → S.says start speaker.old said
+            → IsBatch self.new (S.says start speaker.new) (added (batch_of self.old said) (record { shard = shard; index = index; text = text.now.items })) }
     {
         self.message.records.push_reserved(Placed {
             shard,
@@ -69,7 +70,8 @@ impl Publisher {
 
     /// What is begun is published, if there is something.
     pub fn close<S: Speaker>(&mut self, speaker: &mut S)
-        ensures { S.tells ≡ true → batch_of self.new (S.said speaker.new) ≡ closed (batch_of self.old (S.said speaker.old)) }
+        ensures { (start : S) (said : List Act) → S.says start speaker.old said
+            → IsBatch self.new (S.says start speaker.new) (closed (batch_of self.old said)) }
     {
         if !self.message.records.is_empty() {
             flush(&mut self.message, speaker);
@@ -84,8 +86,9 @@ fn flush<S: Speaker>(message: &mut Records, speaker: &mut S)
     ensures sequence { message.new.sequence ≡ next_sequence message.old.sequence }
     ensures records { message.new.records.items ≡ [] }
     ensures room { vec_capacity message.new.records ≡ vec_capacity message.old.records }
-    ensures said { S.tells ≡ true → S.said speaker.new ≡ S.said speaker.old ++ PublishRecords message.old.name.items
-        (next_sequence message.old.sequence) (map indexed message.old.records.items) ∷ [] }
+    ensures said { (start : S) (said : List Act) → S.says start speaker.old said
+        → S.says start speaker.new (said ++ PublishRecords message.old.name.items
+        (next_sequence message.old.sequence) (map indexed message.old.records.items) ∷ []) }
 {
     message.sequence = (message.sequence + 1) % NUMBER_END;
     speaker.say(&Action::Publish(&Message::Records(message)));

@@ -1,26 +1,31 @@
 //! What a partition does where it reads a message of the stream.
-ghost use Rattle.std.specs.Prelude.{◌≡◌, true, ◌<◌, ◌≤◌, ◌++◌, length, map, IsOk};
+ghost use Rattle.std.specs.Prelude.{◌≡◌, ◌<◌, ◌≤◌, ◌++◌, length, map, ⊤, IsOk, IsErr, MatchResult, List};
 ghost use Rattle.bridge_rule.specs.declared.limits.TheConstants.{LOGS, INDEX_END};
 ghost use Rattle.bridge_rule.specs.Bridges.{IsTold, ArePlaced, indexed, with_logs, logs_read, steps_read};
 ghost use Rattle.bridge_turns.specs.Laws.{AcceptsMessage, AcceptsRecords};
+ghost use Rattle.bridge_turns.specs.Refusals.{IsUnlike, Refuses};
 ghost use Rattle.bridge_lines.specs.declared.limits.TheConstants.{MAX_RECORDS};
 ghost use Rattle.bridge_turns.specs.Partitions.{outcome_of, step_acts, all_step_acts, count_acts, all_count_acts, all_counts};
 ghost use Rattle.bridge_turns.specs.Turns.{reads, reads_opening, reads_records, takes_records, reads_mark, turn_acts};
 ghost use Rattle.bridge_lines.specs.News.{IsMessageWithin};
+ghost use Rattle.bridge_lines.specs.Acts.{Act};
+ghost use Rattle.bridge_turns.specs.Saying.{IsOutcome};
 
 use crate::link::Link;
 use crate::partition::Partition;
 use crate::speaker::Speaker;
-use bridge_lines::{Action, Counted, Cut, Message, Records, Why};
+use bridge_lines::{Action, Counted, Cut, Event, Message, Records, Why};
 use bridge_rule::{Bridge, LOGS, Name, Opening, Placed, Step, Turn, is_same_name};
 
 impl Partition {
     /// Reads the stream's next message.
     pub(crate) fn read<S: Speaker>(&mut self, message: &Message, speaker: &mut S) -> Result<(), Why>
         requires { IsMessageWithin message.now }
-        ensures turn { IsOk result → S.tells ≡ true → outcome_of self.new (S.said speaker.new)
-            ≡ reads message.now (outcome_of self.old (S.said speaker.old)) }
+        ensures turn { IsOk result → (start : S) (said : List Act) → S.says start speaker.old said
+            → IsOutcome self.new (S.says start speaker.new) (reads message.now (outcome_of self.old said)) }
         ensures accepts { IsOk result → IsTold self.old.bridge.role × AcceptsMessage self.old.bridge message.now }
+        ensures silent { IsErr result → (start : S) (said : List Act) → S.says start speaker.old said → S.says start speaker.new said }
+        ensures refused { MatchResult result (λ _. ⊤) (λ why. Refuses self.old (Event.Message message.now) why) }
     {
         if !self.bridge.is_told() {
             return Err(Why::OutOfTurn);
@@ -38,8 +43,8 @@ impl Partition {
     fn read_opening<S: Speaker>(&mut self, opening: &Opening, speaker: &mut S)
         requires told { IsTold self.old.bridge.role }
         requires number { opening.now.number < INDEX_END }
-        ensures { S.tells ≡ true → outcome_of self.new (S.said speaker.new)
-            ≡ reads_opening opening.now (outcome_of self.old (S.said speaker.old)) }
+        ensures { (start : S) (said : List Act) → S.says start speaker.old said
+            → IsOutcome self.new (S.says start speaker.new) (reads_opening opening.now (outcome_of self.old said)) }
     {
         if !self.bridge.is_next(opening) {
             return;
@@ -56,8 +61,11 @@ impl Partition {
         requires placed { ArePlaced message.now.records.items }
         requires few { length message.now.records.items ≤ MAX_RECORDS }
         ensures accepts { IsOk result → AcceptsRecords self.old.bridge message.now }
-        ensures turn { IsOk result → S.tells ≡ true → outcome_of self.new (S.said speaker.new)
-            ≡ reads_records message.now.name.items (map indexed message.now.records.items) (outcome_of self.old (S.said speaker.old)) }
+        ensures turn { IsOk result → (start : S) (said : List Act) → S.says start speaker.old said
+            → IsOutcome self.new (S.says start speaker.new)
+            (reads_records message.now.name.items (map indexed message.now.records.items) (outcome_of self.old said)) }
+        ensures silent { IsErr result → (start : S) (said : List Act) → S.says start speaker.old said → S.says start speaker.new said }
+        ensures refused { MatchResult result (λ _. ⊤) (λ why. (why ≡ Why.Diverged) × IsUnlike self.old.bridge message.now) }
     {
         self.take_records(message, speaker)?;
         if self.bridge.is_serving() {
@@ -72,8 +80,11 @@ impl Partition {
         requires placed { ArePlaced message.now.records.items }
         requires few { length message.now.records.items ≤ MAX_RECORDS }
         ensures accepts { IsOk result → AcceptsRecords self.old.bridge message.now }
-        ensures turn { IsOk result → S.tells ≡ true → outcome_of self.new (S.said speaker.new)
-            ≡ takes_records message.now.name.items (map indexed message.now.records.items) (outcome_of self.old (S.said speaker.old)) }
+        ensures turn { IsOk result → (start : S) (said : List Act) → S.says start speaker.old said
+            → IsOutcome self.new (S.says start speaker.new)
+            (takes_records message.now.name.items (map indexed message.now.records.items) (outcome_of self.old said)) }
+        ensures silent { IsErr result → (start : S) (said : List Act) → S.says start speaker.old said → S.says start speaker.new said }
+        ensures refused { MatchResult result (λ _. ⊤) (λ why. (why ≡ Why.Diverged) × IsUnlike self.old.bridge message.now) }
     {
         copy_counts(&self.bridge, &mut self.counts);
         take_message(&mut self.bridge, message, &mut self.steps, speaker)?;
@@ -83,8 +94,8 @@ impl Partition {
 
     /// Reads a mark.
     fn read_mark<S: Speaker>(&mut self, word: &Name, speaker: &mut S)
-        ensures { S.tells ≡ true → outcome_of self.new (S.said speaker.new)
-            ≡ reads_mark self.old.link word.now.items (outcome_of self.old (S.said speaker.old)) }
+        ensures { (start : S) (said : List Act) → S.says start speaker.old said
+            → IsOutcome self.new (S.says start speaker.new) (reads_mark self.old.link word.now.items (outcome_of self.old said)) }
     {
         match &self.link {
             Link::Away => return,
@@ -112,9 +123,12 @@ fn take_message<S: Speaker>(
     requires room { length message.now.records.items ≤ length steps.old }
     ensures state { IsOk result → bridge.new ≡ with_logs bridge.old
         (logs_read bridge.old message.now.name.items (map indexed message.now.records.items)) }
-    ensures said { IsOk result → S.tells ≡ true → S.said speaker.new ≡ S.said speaker.old ++ all_step_acts
-        (steps_read bridge.old message.now.name.items (map indexed message.now.records.items)) (map indexed message.now.records.items) }
-    ensures accepts { IsOk result → AcceptsRecords bridge.old message.now }
+    ensures said { IsOk result → (start : S) (said : List Act) → S.says start speaker.old said
+        → S.says start speaker.new (said ++ all_step_acts
+        (steps_read bridge.old message.now.name.items (map indexed message.now.records.items)) (map indexed message.now.records.items)) }
+    ensures silent { IsErr result → (start : S) (said : List Act) → S.says start speaker.old said → S.says start speaker.new said }
+    ensures answer { MatchResult result (λ _. AcceptsRecords bridge.old message.now)
+        (λ why. (why ≡ Why.Diverged) × IsUnlike bridge.old message.now) }
 {
     let count = message.records.len();
     take_by_steps(bridge, message, &mut steps[..count], speaker)
@@ -132,9 +146,12 @@ fn take_by_steps<S: Speaker>(
     requires room { length steps.old ≡ length message.now.records.items }
     ensures state { IsOk result → bridge.new ≡ with_logs bridge.old
         (logs_read bridge.old message.now.name.items (map indexed message.now.records.items)) }
-    ensures said { IsOk result → S.tells ≡ true → S.said speaker.new ≡ S.said speaker.old ++ all_step_acts
-        (steps_read bridge.old message.now.name.items (map indexed message.now.records.items)) (map indexed message.now.records.items) }
-    ensures accepts { IsOk result → AcceptsRecords bridge.old message.now }
+    ensures said { IsOk result → (start : S) (said : List Act) → S.says start speaker.old said
+        → S.says start speaker.new (said ++ all_step_acts
+        (steps_read bridge.old message.now.name.items (map indexed message.now.records.items)) (map indexed message.now.records.items)) }
+    ensures silent { IsErr result → (start : S) (said : List Act) → S.says start speaker.old said → S.says start speaker.new said }
+    ensures answer { MatchResult result (λ _. AcceptsRecords bridge.old message.now)
+        (λ why. (why ≡ Why.Diverged) × IsUnlike bridge.old message.now) }
 {
     if bridge
         .read_records(&message.name, &message.records, steps)
@@ -148,7 +165,8 @@ fn take_by_steps<S: Speaker>(
 
 /// What a barrier that counts makes of the bridge.
 fn say_turn<S: Speaker>(turn: Turn, speaker: &mut S)
-    ensures { S.tells ≡ true → S.said speaker.new ≡ S.said speaker.old ++ turn_acts turn }
+    ensures { (start : S) (said : List Act) → S.says start speaker.old said
+        → S.says start speaker.new (said ++ turn_acts turn) }
 {
     match turn {
         Turn::Nothing => {}
@@ -161,7 +179,8 @@ fn say_turn<S: Speaker>(turn: Turn, speaker: &mut S)
 /// What becomes of the journals.
 fn say_steps<S: Speaker>(steps: &[Step], records: &[Placed], speaker: &mut S)
     requires { length steps.now ≡ length records.now }
-    ensures { S.tells ≡ true → S.said speaker.new ≡ S.said speaker.old ++ all_step_acts steps.now (map indexed records.now) }
+    ensures { (start : S) (said : List Act) → S.says start speaker.old said
+        → S.says start speaker.new (said ++ all_step_acts steps.now (map indexed records.now)) }
 {
     for i in 0..records.len() {
         say_step(steps[i], &records[i], speaker);
@@ -170,7 +189,8 @@ fn say_steps<S: Speaker>(steps: &[Step], records: &[Placed], speaker: &mut S)
 
 /// What becomes of a journal at a record.
 fn say_step<S: Speaker>(step: Step, one: &Placed, speaker: &mut S)
-    ensures { S.tells ≡ true → S.said speaker.new ≡ S.said speaker.old ++ step_acts step (indexed one.now) }
+    ensures { (start : S) (said : List Act) → S.says start speaker.old said
+        → S.says start speaker.new (said ++ step_acts step (indexed one.now)) }
 {
     match step {
         Step::Skips => {}
@@ -200,7 +220,8 @@ fn copy_counts(bridge: &Bridge, counts: &mut [u64])
 /// How many records count now, of the shards of which more do.
 fn say_counts<S: Speaker>(counts: &[u64], bridge: &Bridge, speaker: &mut S)
     requires { length counts.now ≡ LOGS }
-    ensures { S.tells ≡ true → S.said speaker.new ≡ S.said speaker.old ++ all_count_acts counts.now bridge.now.logs }
+    ensures { (start : S) (said : List Act) → S.says start speaker.old said
+        → S.says start speaker.new (said ++ all_count_acts counts.now bridge.now.logs) }
 {
     for shard in 0..LOGS as u8 {
         say_count(counts[usize::from(shard)], bridge, shard, speaker);
@@ -210,7 +231,8 @@ fn say_counts<S: Speaker>(counts: &[u64], bridge: &Bridge, speaker: &mut S)
 /// How many records of this shard count now, if it isn't as many as before.
 fn say_count<S: Speaker>(before: u64, bridge: &Bridge, shard: u8, speaker: &mut S)
     requires { shard < LOGS }
-    ensures { S.tells ≡ true → S.said speaker.new ≡ S.said speaker.old ++ count_acts before bridge.now.logs shard }
+    ensures { (start : S) (said : List Act) → S.says start speaker.old said
+        → S.says start speaker.new (said ++ count_acts before bridge.now.logs shard) }
 {
     let number = bridge.count(shard);
     if number != before {

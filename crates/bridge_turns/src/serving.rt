@@ -1,10 +1,12 @@
 //! What a partition does while it serves: it publishes what its host recorded, and sends the replies whose records count.
-ghost use Rattle.std.specs.Prelude.{◌≡◌, true, ◌<◌, ◌++◌, length, max, replicate, IsOk};
+ghost use Rattle.std.specs.Prelude.{◌≡◌, ◌+◌, ◌<◌, ◌++◌, length, max, replicate, ⊤, IsOk, MatchResult, List};
 ghost use Rattle.bridge_rule.specs.declared.limits.TheConstants.{LOGS};
 ghost use Rattle.bridge_rule.specs.Bridges.{IsServing, log_at, with_held};
 ghost use Rattle.bridge_turns.specs.Publishing.{batch_of, all_added};
 ghost use Rattle.bridge_turns.specs.Partitions.{outcome_of, found, found_from, news, all_known, left, gone, reply_acts, all_reply_acts};
 ghost use Rattle.bridge_turns.specs.Turns.{publishes, releases, last_of, lasts};
+ghost use Rattle.bridge_lines.specs.Acts.{Act};
+ghost use Rattle.bridge_turns.specs.Saying.{IsOutcome, IsBatch};
 
 use crate::partition::Partition;
 use crate::publisher::Publisher;
@@ -15,7 +17,8 @@ use bridge_rule::{Bridge, Held, LOGS, Place};
 impl Partition {
     /// The records that weren't published are published.
     pub(crate) fn publish<S: Speaker>(&mut self, speaker: &mut S)
-        ensures { S.tells ≡ true → outcome_of self.new (S.said speaker.new) ≡ publishes (outcome_of self.old (S.said speaker.old)) }
+        ensures { (start : S) (said : List Act) → S.says start speaker.old said
+            → IsOutcome self.new (S.says start speaker.new) (publishes (outcome_of self.old said)) }
     {
         self.publisher.begin(&self.bridge.served_name());
         publish_logs(&self.bridge, &self.published, &mut self.publisher, speaker);
@@ -33,7 +36,8 @@ impl Partition {
     /// The replies whose records count are sent.
     pub(crate) fn release<S: Speaker>(&mut self, speaker: &mut S)
         requires { IsServing self.old.bridge.role }
-        ensures { S.tells ≡ true → outcome_of self.new (S.said speaker.new) ≡ releases (outcome_of self.old (S.said speaker.old)) }
+        ensures { (start : S) (said : List Act) → S.says start speaker.old said
+            → IsOutcome self.new (S.says start speaker.new) (releases (outcome_of self.old said)) }
     {
         release_all(&mut self.bridge, speaker);
     }
@@ -41,8 +45,10 @@ impl Partition {
     /// What a host that begins may stand on has to count before it answers.
     pub(crate) fn hold_lasts(&mut self) -> Result<(), Why>
         requires { IsServing self.old.bridge.role }
-        ensures { IsOk result → self.new
+        ensures held { IsOk result → self.new
             ≡ record self.old { bridge = with_held self.old.bridge (self.old.bridge.held ++ lasts self.old.bridge.logs) } }
+        ensures refused { MatchResult result (λ _. ⊤) (λ why. (why ≡ Why.NoRoom)
+            × (self.old.bridge.room < length self.old.bridge.held + length (lasts self.old.bridge.logs))) }
     {
         hold_lasts(&mut self.bridge)
     }
@@ -61,7 +67,8 @@ fn clear(numbers: &mut [u64])
 fn release_all<S: Speaker>(bridge: &mut Bridge, speaker: &mut S)
     requires { IsServing bridge.old.role }
     ensures bridge { bridge.new ≡ with_held bridge.old (left bridge.old.logs bridge.old.held) }
-    ensures said { S.tells ≡ true → S.said speaker.new ≡ S.said speaker.old ++ all_reply_acts (gone bridge.old.logs bridge.old.held) }
+    ensures said { (start : S) (said : List Act) → S.says start speaker.old said
+        → S.says start speaker.new (said ++ all_reply_acts (gone bridge.old.logs bridge.old.held)) }
 {
     while let Some(held) = bridge.release() {
         say_reply(held, speaker);
@@ -70,7 +77,8 @@ fn release_all<S: Speaker>(bridge: &mut Bridge, speaker: &mut S)
 
 /// The reply of what waited is sent, if it is one.
 fn say_reply<S: Speaker>(held: Held, speaker: &mut S)
-    ensures { S.tells ≡ true → S.said speaker.new ≡ S.said speaker.old ++ reply_acts held.reply }
+    ensures { (start : S) (said : List Act) → S.says start speaker.old said
+        → S.says start speaker.new (said ++ reply_acts held.reply) }
 {
     if let Some(number) = held.reply {
         speaker.say(&Action::Reply(number));
@@ -80,10 +88,14 @@ fn say_reply<S: Speaker>(held: Held, speaker: &mut S)
 /// What a host that begins may stand on has to count before it answers.
 fn hold_lasts(bridge: &mut Bridge) -> Result<(), Why>
     requires { IsServing bridge.old.role }
-    ensures { IsOk result → bridge.new ≡ with_held bridge.old (bridge.old.held ++ lasts bridge.old.logs) }
+    ensures held { IsOk result → bridge.new ≡ with_held bridge.old (bridge.old.held ++ lasts bridge.old.logs) }
+    ensures refused { MatchResult result (λ _. ⊤) (λ why. (why ≡ Why.NoRoom)
+        × (bridge.old.room < length bridge.old.held + length (lasts bridge.old.logs))) }
 {
     for shard in 0..LOGS as u8 {
-        hold_last(bridge, shard)?;
+        if let Err(why) = hold_last(bridge, shard) {
+            return Err(why);
+        }
     }
     Ok(())
 }
@@ -92,7 +104,9 @@ fn hold_lasts(bridge: &mut Bridge) -> Result<(), Why>
 fn hold_last(bridge: &mut Bridge, shard: u8) -> Result<(), Why>
     requires role { IsServing bridge.old.role }
     requires shard { shard < LOGS }
-    ensures { IsOk result → bridge.new ≡ with_held bridge.old (bridge.old.held ++ last_of bridge.old.logs shard) }
+    ensures held { IsOk result → bridge.new ≡ with_held bridge.old (bridge.old.held ++ last_of bridge.old.logs shard) }
+    ensures refused { MatchResult result (λ _. ⊤) (λ why. (why ≡ Why.NoRoom)
+        × (bridge.old.room < length bridge.old.held + length (last_of bridge.old.logs shard))) }
 {
     let known = bridge.known_count(shard);
     if known == bridge.count(shard) {
@@ -120,8 +134,8 @@ fn publish_logs<S: Speaker>(
     speaker: &mut S,
 )
     requires { length published.now ≡ LOGS }
-    ensures { S.tells ≡ true → batch_of publisher.new (S.said speaker.new)
-        ≡ all_added (batch_of publisher.old (S.said speaker.old)) (news bridge.now.logs published.now) }
+    ensures { (start : S) (said : List Act) → S.says start speaker.old said
+        → IsBatch publisher.new (S.says start speaker.new) (all_added (batch_of publisher.old said) (news bridge.now.logs published.now)) }
 {
     for shard in 0..LOGS as u8 {
         let from = greater(published[usize::from(shard)], bridge.count(shard));
@@ -145,8 +159,8 @@ fn publish_log<S: Speaker>(
     speaker: &mut S,
 )
     requires { shard < LOGS }
-    ensures { S.tells ≡ true → batch_of publisher.new (S.said speaker.new)
-        ≡ all_added (batch_of publisher.old (S.said speaker.old)) (found_from (log_at bridge.now.logs shard) shard from) }
+    ensures { (start : S) (said : List Act) → S.says start speaker.old said
+        → IsBatch publisher.new (S.says start speaker.new) (all_added (batch_of publisher.old said) (found_from (log_at bridge.now.logs shard) shard from)) }
 {
     for index in from..bridge.known_count(shard) {
         publish_one(bridge, shard, index, publisher, speaker);
@@ -162,8 +176,8 @@ fn publish_one<S: Speaker>(
     speaker: &mut S,
 )
     requires { shard < LOGS }
-    ensures { S.tells ≡ true → batch_of publisher.new (S.said speaker.new)
-        ≡ all_added (batch_of publisher.old (S.said speaker.old)) (found (log_at bridge.now.logs shard) shard index) }
+    ensures { (start : S) (said : List Act) → S.says start speaker.old said
+        → IsBatch publisher.new (S.says start speaker.new) (all_added (batch_of publisher.old said) (found (log_at bridge.now.logs shard) shard index)) }
 {
     if let Some(text) = bridge.known(shard, index) {
         publisher.add(shard, index, text, speaker);

@@ -1,0 +1,7 @@
+-- The definitions that the contracts of this crate cite.
+pub mod Runs
+pub mod Faults
+pub mod Reading
+pub mod Ends
+pub mod Printing
+pub mod Written
