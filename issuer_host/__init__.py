@@ -19,6 +19,6 @@ and mypy over all Python files of the tree.
 # The subpackages in their order: those of an installed copy, and those that need the sources.
 INSTALLED = (
     *("facts", "files", "configuration", "keys", "start", "host", "orders", "broker", "telling", "commands", "gateway"),
-    *("clearing", "replication", "launcher"),
+    *("clearing", "replication", "status", "launcher"),
 )
 OF_SOURCES = ("building", "packaging")

@@ -1,4 +1,5 @@
 """One connection to the broker with one channel, which is opened again when it is lost."""
+import time
 from collections.abc import Callable
 from enum import Enum
 from typing import Any, Optional
@@ -6,6 +7,7 @@ from typing import Any, Optional
 import pika
 
 from issuer_host.broker.addresses import services_of
+from issuer_host.broker.refusing_leaders import RefusingLeaders
 from issuer_host.broker.types import Callback, Channel, Step
 from issuer_host.broker.wire import decode_no_headers, keep_short_bodies
 from issuer_host.host.event_loop import Action, Loop
@@ -61,7 +63,8 @@ class Link:
         self.setup: Optional[object] = None
         # The number of the last message, and what is called with the confirm of each: numbers are in order.
         self.number = 0
-        self.unconfirmed: dict[int, tuple[str, OnConfirm]] = {}
+        self.unconfirmed: dict[int, tuple[str, str, OnConfirm]] = {}
+        self.leaders = RefusingLeaders()
         self.returned: set[str] = set()
         decode_no_headers()
 
@@ -103,6 +106,7 @@ class Link:
         self.end_setup()
         self.made = channel
         self.number = 0
+        self.leaders.begins()
         self.on_ready(channel)
 
     def end_setup(self) -> None:
@@ -153,7 +157,7 @@ class Link:
             delivery_mode=2, correlation_id=correlation, reply_to=reply_to, content_type="text/plain"
         )
         self.number += 1
-        self.unconfirmed[self.number] = correlation, then
+        self.unconfirmed[self.number] = correlation, key, then
         channel.basic_publish(exchange, key, body, properties, mandatory=True)
 
     def wake(self, exchange: str, key: str, body: bytes) -> None:
@@ -169,12 +173,20 @@ class Link:
         for number in self.numbers_of(method.delivery_tag, method.multiple):
             if number not in self.unconfirmed:
                 continue
-            correlation, then = self.unconfirmed.pop(number)
+            correlation, key, then = self.unconfirmed.pop(number)
             if correlation in self.returned:
                 self.returned.discard(correlation)
                 then(Confirm.RETURNED)
             else:
+                self.look_at_leader(key, is_acked)
                 then(Confirm.ACKED if is_acked else Confirm.NACKED)
+
+    def look_at_leader(self, key: str, is_acked: bool) -> None:
+        """Begins anew where a queue refuses each message for a while: the channel may ask a leader that is gone."""
+        if is_acked:
+            self.leaders.took(key)
+        elif self.leaders.refused(key, time.monotonic()):
+            self.begin_anew(f"the queue of {key[:REASON]} takes nothing by this channel")
 
     def numbers_of(self, last: int, is_multiple: bool) -> list[int]:
         """Returns the numbers of the messages that a confirm is for."""

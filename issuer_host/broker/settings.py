@@ -2,7 +2,7 @@
 import json
 import re
 import subprocess
-from collections.abc import Mapping
+from collections.abc import Mapping, Sequence
 from typing import Any, NamedTuple
 
 from issuer_host.facts.refusal import Refusal
@@ -85,13 +85,15 @@ class Facts(NamedTuple):
 class Control:
     """Asks a broker by a command such as rabbitmqctl."""
 
-    def __init__(self, command: str, host: str) -> None:
+    def __init__(self, command: str, host: str, more: Sequence[str] = ()) -> None:
+        """`more` are words before all others, as those that name another node."""
         self.command = command
         self.host = host
+        self.more = more
 
     def run(self, *words: str) -> str:
         try:
-            command = [self.command, "--quiet", *words]
+            command = [self.command, *self.more, "--quiet", *words]
             done = subprocess.run(command, capture_output=True, text=True, check=False, timeout=SECONDS)
         except OSError as fault:
             raise Refusal(f"{self.command} can't be run: {fault.strerror}; name it by --control") from fault
@@ -106,12 +108,16 @@ class Control:
         of_host = ["--vhost", self.host] if is_of_host else []
         return json.loads(self.run(*words[:1], *of_host, "--formatter", "json", *words[1:]) or "[]")
 
-    def settings(self) -> Any:
-        """Returns what the broker itself says by an expression."""
-        said = self.run("eval", SETTINGS).strip()
+    def evaluated(self, expression: str) -> Any:
+        """Returns what an expression of the broker's own language comes to: one JSON text."""
+        said = self.run("eval", expression).strip()
         # (it prints a binary as <<"..">>, with each quote and stroke in it escaped, and a long one in pieces)
         text = PIECES.sub("", said.removeprefix("<<").removesuffix(">>"))
         return json.loads(json.loads(text))
+
+    def settings(self) -> Any:
+        """Returns what the broker itself says by an expression."""
+        return self.evaluated(SETTINGS)
 
 
 def limits_of(value: Any) -> dict[str, int]:

@@ -7,7 +7,6 @@ WITHOUT_PROGRAM = (
     "tests/names",
     "tests/program/card",
     "tests/program/configuration_check",
-    "tests/machines/replication --short",
     "tests/host/lifecycle",
     "tests/machines/availability",
     "tests/gateway/dialects",

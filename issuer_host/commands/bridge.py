@@ -187,6 +187,7 @@ class BrokerBridge:
         self.readiness.look(f"{len(self.flight)} in flight, {state}")
         self.figures.in_flight.set(len(self.flight))
         self.figures.oldest.set(self.flight.age(now))
+        self.figures.connected.set(bool(self.consumer))
         self.serving.look()
         self.look_at_journals()
         self.loop.call_later(TICK_SECONDS, self.tick)

@@ -1,4 +1,5 @@
 """The exit statuses: what each means, its cause in words, and whether a new start ends in the same way."""
+import signal
 from enum import IntEnum
 from typing import NamedTuple
 
@@ -27,6 +28,10 @@ class Status(IntEnum):
     PASSES = 75
     # A start that issuer-run or the bridge refused.
     REFUSED = 78
+
+
+# How a run ended that was killed, or that fell: a signal is negative.
+KILLED = tuple(-int(number) for number in (signal.SIGKILL, signal.SIGTERM, signal.SIGSEGV, signal.SIGABRT))
 
 
 class Meaning(NamedTuple):

@@ -15,7 +15,8 @@ from typing import Optional
 
 from issuer_host.facts.answers import RECORDED, kind_of
 from issuer_host.facts.masks import masked
-from issuer_host.facts.refusal import Refusal, tell
+from issuer_host.facts.refusal import Refusal
+from issuer_host.facts.troubles import Troubles
 from issuer_host.files.folders import as_owner, folder_of
 from issuer_host.files.regular_files import open_regular
 
@@ -27,6 +28,7 @@ MOST_BYTES = 64 << 20
 FULL_FILES = 4
 # So many lines are written between two looks whether another process has moved the file away.
 LOOK_LINES = 64
+UNWRITTEN = "the log of who did what isn't written"
 FLAGS = os.O_WRONLY | os.O_CREAT | os.O_APPEND
 
 
@@ -52,7 +54,9 @@ class Audit:
         self.most_bytes = most_bytes
         self.file = -1
         self.lines = 0
-        self.is_failing = False
+        # Whether nobody is told that lines can't be written.
+        self.is_quiet = False
+        self.troubles = Troubles(name)
         # Whether the file may end within a line.
         self.is_torn = False
 
@@ -64,7 +68,7 @@ class Audit:
 
     def started(self, command: str, uid: int, why: str = "", program: str = "") -> None:
         """A start was handed over to a program of a SHA-256, or refused. One that can't be noted is told by nobody."""
-        self.is_failing = True
+        self.is_quiet = True
         said: dict[str, object] = {"by": self.name, "what": "refused" if why else "start", "command": command}
         more = {name: value for name, value in (("program", program), ("why", why)) if value}
         self.note({**said, "uid": uid, **more})
@@ -84,17 +88,17 @@ class Audit:
             self.flush()
 
     def flush(self) -> None:
-        """Appends what was added, unless that fails: then the first of such failures is told."""
+        """Appends what was added, unless that fails: the first of such failures is told, and when it is over."""
         lines, self.pending = self.pending, []
         if not lines:
             return
         try:
             self.append("".join(lines).encode(), len(lines))
-            self.is_failing = False
+            self.troubles.ends(UNWRITTEN, f"{self.path} is written again")
         except (OSError, Refusal) as fault:
-            if not self.is_failing:
-                tell(self.name, f"{self.path} isn't written: {fault}")
-            self.is_failing = True
+            if not self.is_quiet:
+                why = fault.strerror if isinstance(fault, OSError) else str(fault)
+                self.troubles.begins(UNWRITTEN, f"{self.path}: {why}. Its lines are left out, and nothing stops")
 
     def append(self, text: bytes, lines: int) -> None:
         if self.file < 0 or self.lines >= LOOK_LINES:

@@ -1,7 +1,11 @@
 """Seals the records of a partition's journals while its host writes them."""
+import time
+from collections.abc import Callable
+
 from issuer_host.facts.answers import RECORDED
 from issuer_host.facts.limits import MAX_SHARDS
 from issuer_host.facts.refusal import Refusal, tell
+from issuer_host.facts.troubles import Troubles
 from issuer_host.files.durable_lines import FollowedJournal
 from issuer_host.files.open_journals import Look, open_journals
 from issuer_host.files.run_mark import last_run_of, lock_mark
@@ -11,22 +15,30 @@ from issuer_host.files.seals import Left, Seals, seals_of
 # are sealed next, so that the bridge's loop goes on.
 PIECES = 16
 LOOKED_PIECES = 256
+# A disk that took no seal is tried again after so long.
+AGAIN_SECONDS = 5.0
+UNSEALED = "no seal is written"
 
 
 class SealWriter:
-    """The journals that one run of a host writes. A fault ends the sealing and nothing else: the next start seals.
+    """The journals that one run of a host writes. A fault ends nothing but the sealing.
+
+    A disk that takes no seal is tried again: once there is room, all that is missing is sealed. A journal that isn't
+    what its seals say is sealed no more, and the next start refuses it.
 
     It is made before the run is started. So it knows at the end whether a run has begun: a start that is refused names
     none in the mark.
     """
 
-    def __init__(self, name: str, by: str = "bridge") -> None:
+    def __init__(self, name: str, by: str = "bridge", clock: Callable[[], float] = time.monotonic) -> None:
         self.name = name
         # Who tells of a fault.
         self.by = by
         self.journals: dict[int, tuple[FollowedJournal, Seals]] = {}
         self.durable: dict[int, int] = {}
         self.is_over = False
+        self.clock, self.not_before = clock, 0.0
+        self.troubles = Troubles(by, clock)
         self.files = open_journals(name)
         # The last run that began before this one.
         self.before = last_run_of(name)
@@ -44,15 +56,21 @@ class SealWriter:
 
     def look(self) -> None:
         """Seals what is durable. Long journals that this run hasn't sealed yet take several looks."""
-        if self.is_over:
+        if self.is_over or self.clock() < self.not_before:
             return
         left = LOOKED_PIECES
         try:
             for shard, count in self.durable.items():
                 left -= self.seal(shard, count, left)
-        except (OSError, Refusal) as fault:
-            tell(self.by, f"the journals aren't sealed any more until the next start: {fault}")
+        except OSError as fault:
+            self.troubles.begins(UNSEALED, f"{fault.strerror}: make room, or see to the disk. It is tried again")
+            self.not_before = self.clock() + AGAIN_SECONDS
+            self.forget()
+        except Refusal as fault:
+            tell(self.by, f"error: the journals aren't sealed any more until the next start: {fault}")
             self.close()
+        else:
+            self.troubles.ends(UNSEALED, "seals are written again")
 
     def seal(self, shard: int, durable: int, most: int) -> int:
         """Seals what is durable of a shard. Returns how many pieces were looked through, so many at most."""
@@ -86,6 +104,10 @@ class SealWriter:
 
     def close(self) -> None:
         self.is_over = True
+        self.forget()
+
+    def forget(self) -> None:
+        """Closes journals and seals. What they have is read anew before more is sealed."""
         for followed, seals in self.journals.values():
             followed.close()
             seals.__exit__()

@@ -12,6 +12,7 @@ from typing import Callable, NamedTuple, Optional, Union
 from issuer_host.facts.answers import DECISIONS, Kind, REFUSED, kind_of
 from issuer_host.facts.journals import journals_of
 from issuer_host.facts.proof import ProgramIdentity
+from issuer_host.facts.statuses import KILLED
 from issuer_host.gateway.admission import REASONS
 from issuer_host.gateway.log import tell
 from issuer_host.gateway.mapping import REFUSALS
@@ -87,6 +88,8 @@ class GatewayFigures:
             self.labelled["refused"][(("why", why),)] = 0
         for partition in range(partitions):
             self.labelled["host_starts"][of_partition(partition)] = 0
+            for status in KILLED:
+                self.labelled["host_ends"][(*of_partition(partition), ("status", str(status)))] = 0
             for kind in [*map(Kind, DECISIONS), *(Kind(REFUSED, str(int(it))) for it in REFUSALS)]:
                 self.labelled["answers"][labels_of(partition, kind)] = 0
 

@@ -1,7 +1,9 @@
 """Messages of ISO 8583, and their bytes in a dialect."""
 
+import functools
+from collections.abc import Sequence
 from dataclasses import dataclass, field
-from typing import Optional
+from typing import Optional, cast
 
 from issuer_host.gateway.dialect import BITMAP_ELEMENTS, Dialect, Format, LAST_ELEMENT, LinkHeader
 from issuer_host.gateway.elements import SEPARATOR, TornElement, Value, reader_of, writer_of
@@ -12,6 +14,10 @@ __all__ = ("Codec", "Message", "SEPARATOR", "Unreadable", "Unwritable", "Value")
 VERSION_OF = {"1987": "0", "1993": "1", "2003": "2"}
 VERSIONS = tuple(VERSION_OF.values())
 HALF = 64
+# The first byte of a bitmap that another one follows, at the least.
+HAS_SECOND = 0x80
+# The messages of a peer have few different sets of elements: so many of them are remembered.
+SETS = 256
 
 
 @dataclass
@@ -88,29 +94,23 @@ class Codec:
             raise Unreadable("more follows the last element", message, at=at)
         return message
 
-    def read_bitmaps(self, data: bytes, at: int) -> tuple[list[int], int]:
+    def read_bitmaps(self, data: bytes, at: int) -> tuple[Sequence[int], int]:
         """The numbers of the elements that follow."""
         first, at = self.read_bits(data, at)
-        bits, count = int.from_bytes(first, "big"), HALF  # type: ignore[arg-type]
-        if bits >> (HALF - 1):
-            more, at = self.read_bits(data, at)
-            bits, count = bits << HALF | int.from_bytes(more, "big"), LAST_ELEMENT  # type: ignore[arg-type]
-        return [number for number in range(2, count + 1) if bits >> (count - number) & 1], at
+        bits = cast(bytes, first)
+        if bits[0] >= HAS_SECOND:
+            second, at = self.read_bits(data, at)
+            bits += cast(bytes, second)
+        return numbers_of(bits), at
 
     def pack(self, message: Message) -> bytes:
         """The bytes of a message; Unwritable if an element isn't of the dialect's format."""
-        numbers = sorted(message.elements)
-        bits, has_second = 0, bool(numbers) and numbers[-1] > HALF
-        parts = [self.write_kind(message.kind), b""]
+        numbers = tuple(sorted(message.elements))
+        bitmap, codec = bitmap_of(numbers), self.dialect.bitmaps
+        parts = [self.write_kind(message.kind), bitmap if codec is None else bitmap.hex().upper().encode(codec)]
         for number in numbers:
-            bits |= 1 << (LAST_ELEMENT - number)
             written = message.written.get(number)
             parts.append(self.write(number, message.elements[number]) if written is None else written)
-        if has_second:
-            bits |= 1 << (LAST_ELEMENT - 1)
-        bitmap = bits.to_bytes(16, "big")[: 16 if has_second else 8]
-        codec = self.dialect.bitmaps
-        parts[1] = bitmap if codec is None else bitmap.hex().upper().encode(codec)
         if self.header_bytes:
             parts.insert(0, written_headers(self.dialect.headers, message.header))
         return b"".join(parts)
@@ -123,6 +123,25 @@ class Codec:
             return writer(value)
         except TornElement as why:
             raise Unwritable(f"element {number}: {why}") from why
+
+
+# Bitmaps
+
+
+@functools.lru_cache(SETS)
+def numbers_of(bitmap: bytes) -> tuple[int, ...]:
+    """The numbers of the elements that a bitmap names, itself left out."""
+    bits, count = int.from_bytes(bitmap, "big"), 8 * len(bitmap)
+    return tuple(number for number in range(2, count + 1) if bits >> (count - number) & 1)
+
+
+@functools.lru_cache(SETS)
+def bitmap_of(numbers: tuple[int, ...]) -> bytes:
+    """The bitmap of these elements, in their order; of 16 bytes if one of them is above 64."""
+    bits = sum(1 << (LAST_ELEMENT - number) for number in numbers)
+    if numbers and numbers[-1] > HALF:
+        return (bits | 1 << (LAST_ELEMENT - 1)).to_bytes(16, "big")
+    return bits.to_bytes(16, "big")[:8]
 
 
 # Headers

@@ -95,6 +95,9 @@ class PipeHost:
     def order(self, order: Order, uid: int, reply: Callable[[str], object]) -> None:
         self.serving.order(order, uid, reply)
 
+    def probe(self, number: str, reply: Callable[[str], object]) -> None:
+        self.serving.orders.on_probe(number, reply)
+
     # What the gateway calls
 
     def start(self) -> None:

@@ -8,6 +8,8 @@ from issuer_host.orders.texts import BEFORE, DONE, HOST, NOT_DONE, ORDER
 # A host that has to load its journals first takes longer than this only if it hangs, and then it is killed.
 SECONDS = 300.0
 PIECE = 4096
+# How it is said that a line was done by its number before.
+DONE_BEFORE = "done before, by the same number"
 
 
 class OrderConnection:
@@ -53,30 +55,43 @@ def takers_of(paths: list[str]) -> list[OrderConnection]:
     return sorted(found, key=lambda taker: taker.ask(HOST) != f"{HOST} 1")
 
 
-def order(paths: list[str], number: str, lines: list[str]) -> None:
-    """Orders lines one after another, and prints their answers."""
+class Taker:
+    """Who takes the lines of an order."""
+
+    def reply_of(self, number: str, line: str) -> str:
+        """Returns what became of a line with its number."""
+        raise NotImplementedError
+
+
+class SocketTaker(Taker):
+    """Who takes lines at some sockets."""
+
+    def __init__(self, paths: list[str]) -> None:
+        self.takers = takers_of(paths)
+
+    def reply_of(self, number: str, line: str) -> str:
+        """Returns what became of a line: by the first one, or by the next one if that has no journals."""
+        reply = ""
+        for taker in self.takers:
+            reply = taker.ask(f"{ORDER} {number} {line}")
+            if reply and not reply.startswith(f"{NOT_DONE} known"):
+                break
+        return reply
+
+
+def order(taker: Taker, number: str, lines: list[str], first: int = 1) -> None:
+    """Orders lines one after another, of which the first has a number, and prints their answers."""
     before = []
-    takers = takers_of(paths)
-    for at, line in enumerate(lines, 1):
-        reply = reply_of(takers, f"{number}/{at}", line)
-        word, _, said = reply.partition(" ")
+    for at, line in enumerate(lines, first):
+        replied = taker.reply_of(f"{number}/{at}", line)
+        word, _, said = replied.partition(" ")
         if word not in (DONE, BEFORE):
             again = f"; give the same order with --number {number}: no line is put twice"
-            why = reply if reply.startswith(f"{NOT_DONE} done") else f"{reply or 'no reply came'}{again}"
+            why = replied if replied.startswith(f"{NOT_DONE} done") else f"{replied or 'no reply came'}{again}"
             raise Refusal(f"line {at}: {why}")
         print(said, flush=True)
         if word == BEFORE:
             before.append(str(at))
     if before:
         some = f"line {before[0]} was" if len(before) == 1 else f"lines {', '.join(before)} were"
-        tell("order", f"{some} done before, by the same number")
-
-
-def reply_of(takers: list[OrderConnection], number: str, line: str) -> str:
-    """Returns what became of a line: by the first one, or by the next one if that has no journals."""
-    reply = ""
-    for taker in takers:
-        reply = taker.ask(f"{ORDER} {number} {line}")
-        if reply and not reply.startswith(f"{NOT_DONE} known"):
-            break
-    return reply
+        tell("order", f"{some} {DONE_BEFORE}")

@@ -12,7 +12,8 @@ from issuer_host.facts.masks import name_of_card
 from issuer_host.files.card_records import Card
 from issuer_host.orders.in_order import Ledger, Put, Steps, Work
 from issuer_host.orders.intent_log import Begun, sum_of
-from issuer_host.orders.texts import BEFORE, DONE, NOT_DONE, is_number_of_line, words_of
+from issuer_host.orders.order_types import is_number_of_line, words_of
+from issuer_host.orders.texts import BEFORE, DONE, NOT_DONE
 
 NOT_RECORDED = f"{REFUSED} {int(RefusalNumber.STORE_FAULT)}"
 

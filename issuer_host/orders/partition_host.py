@@ -9,11 +9,12 @@ from issuer_host.files.audit import Audit
 from issuer_host.host.event_loop import Loop
 from issuer_host.host.line_host import AnswerPacer, HostFigures, HostSettings, LineHost
 from issuer_host.host.lines import Entry
-from issuer_host.host.retry_policy import RetryPolicy
+from issuer_host.host.retry_policy import FullDisk, RetryPolicy
 from issuer_host.orders.declines import Declining, decline_of
 from issuer_host.orders.in_order import CardWorks, Work
 from issuer_host.orders.intent_log import WorkFile
 from issuer_host.orders.order import Order, Ordered
+from issuer_host.orders.probe import Prober
 from issuer_host.orders.server import OrderSocket
 from issuer_host.orders.texts import NOT_DONE
 
@@ -93,12 +94,13 @@ class PartitionHost:
     ) -> None:
         self.loop, self.figures = loop, figures
         self.requester, self.keeper = requester, keeper
-        self.retries = RetryPolicy()
+        self.retries = RetryPolicy(FullDisk(settings.journal, settings.name).note)
         self.audit = Audit(settings.journal, settings.name, later=settings.log_later)
         self.hosting = LineHost(loop, settings, self, self, figures, pacer)
         notes = file or WorkFile(settings.journal, settings.name)
         self.works = CardWorks(loop, self.hosting, notes, self.retries, self.work_answered, self.release)
         self.orders = OrderSocket(loop, settings.orders, self.has_host, self.order, settings.name)
+        self.orders.on_probe = Prober(self.keeper, self.works).put
         # Whether requests come here: without them a host ends when it is idle.
         self.is_served = self.is_stopping = False
 

@@ -2,7 +2,9 @@
 
 A peer sends lines, and each gets a line back:
 
-    host                    `host 1` if a host runs that is asked requests, and `host 0` otherwise
+    host                    `host 1` if a host runs that is asked requests, and `host 0` otherwise; of several machines
+                            `host 0 MACHINE` names the one that serves
+    probe PARTITION         `answers ANSWER` once the partition's host answered a line of no form; `no answer: WHY`
     order NUMBER LINE       `done ANSWER`; `before ANSWER` if it was done before; `not done: WHY`; `not known: WHY` if
                             the same has to be sent again to learn what became of it
 """
@@ -17,7 +19,7 @@ from typing import Optional
 from issuer_host.facts.refusal import tell
 from issuer_host.host.event_loop import Loop
 from issuer_host.orders.order import Order, order_of
-from issuer_host.orders.texts import HOST, NOT_DONE, ORDER
+from issuer_host.orders.texts import HOST, NO_ANSWER, NOT_DONE, ORDER, PROBE
 
 # So many peers are connected at a time; one more waits.
 CONNECTIONS = 16
@@ -27,6 +29,7 @@ MAX_LINE = 1024
 # What the kernel says of a peer: its process, user and group.
 CREDENTIALS = struct.Struct("3i")
 
+OnProbe = Callable[[str, Callable[[str], object]], object]
 OnOrder = Callable[[Order, int, Callable[[str], object]], object]
 
 
@@ -60,6 +63,10 @@ class OrderSocket:
         self.on_order = on_order
         # Who tells of it.
         self.name = name
+        # Returns the machine that serves where this one doesn't; nothing if there are no others, or none is known.
+        self.served_by: Callable[[], str] = str
+        # Puts a probe to the host of a partition.
+        self.on_probe: OnProbe = no_probe
         self.peers: dict[int, Peer] = {}
         self.listening: Optional[socket.socket] = None
 
@@ -114,7 +121,11 @@ class OrderSocket:
         """Takes a line of a peer."""
         word, _, rest = line.partition(" ")
         if word == HOST and not rest:
-            peer.reply(f"{HOST} {int(self.has_host())}")
+            peer.reply(f"{HOST} {int(self.has_host())} {self.served_by()}".rstrip())
+            return
+        if word == PROBE:
+            peer.owed += 1
+            self.on_probe(rest, peer.reply_to_order)
             return
         number, _, text = rest.partition(" ")
         order = order_of(number, text) if word == ORDER else None
@@ -137,6 +148,10 @@ class OrderSocket:
             self.listening = None
             with contextlib.suppress(OSError):
                 os.remove(self.path)
+
+
+def no_probe(_: str, reply: Callable[[str], object]) -> None:
+    reply(f"{NO_ANSWER}: nothing is probed here")
 
 
 def listening_at(path: str) -> socket.socket:

@@ -53,10 +53,17 @@ COMMANDS = {
     "keys": "issuer-keys",
     "node": "issuer-node",
     "rejoin": "issuer-rejoin",
+    "replace": "issuer-replace",
+    "status": "issuer-status",
+    "probe": "issuer-probe",
+    "backup": "issuer-backup",
 }
 UNIT, STANDBY = "issuer@.service", "issuer-standby@.service"
 # Units that are packaged as they are.
-WHOLE_UNITS = ("issuer-gateway.service", "issuer-node.service")
+WHOLE_UNITS = (
+    *("issuer-gateway.service", "issuer-node.service", "issuer-rejoin.service", "issuer-status.service"),
+    *("issuer-backup@.service", "issuer-backup@.timer"),
+)
 # Drop-ins of the units: for keys at rest, and for journals with a disk of their own.
 DROP_INS = ("encrypted-configuration.conf", "own-disk.conf", "token.conf")
 MANUALS = ("issuer.1", "issuer-journal.5", "issuer-deploy.8", "issuer-gateway.8")
@@ -176,6 +183,8 @@ def add_pages(tree: Tree, maintainer: str) -> None:
     tree.copy(os.path.join(DEPLOY, "README.md"), f"{at}/README.md")
     for name in ("alerts.yml", "dashboard.json"):
         tree.copy(os.path.join(DEPLOY, name), f"{at}/examples/{name}")
+    for name in sorted(os.listdir(os.path.join(DEPLOY, "examples"))):
+        tree.copy(os.path.join(DEPLOY, "examples", name), f"{at}/examples/{name}")
     for name in DROP_INS:
         tree.copy(os.path.join(DEPLOY, "units", name), f"{at}/examples/{name}")
     for name in ("config", "requests"):

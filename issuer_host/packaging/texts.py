@@ -8,7 +8,7 @@ Maintainer: {maintainer}
 Installed-Size: {size}
 Depends: libc6 (>= 2.34), passwd, python3 (>= 3.9), python3-pika
 Recommends: python3-cryptography, python3-decorator, python3-prometheus-client, python3-pykcs11
-Suggests: prometheus, python3-aiohttp, rabbitmq-server, softhsm2
+Suggests: prometheus, python3-aiohttp, python3-jinja2, python3-rich, rabbitmq-server, softhsm2
 Section: admin
 Priority: optional
 Description: authorisation host for EMV chip cards
@@ -44,7 +44,8 @@ set -e
 # (a version before this one left compiled modules there)
 find /usr/lib/issuer -depth -type d -name __pycache__ -exec rm -rf {} + || true
 if [ "$1" = remove ] && [ -d /run/systemd/system ]; then
-    deb-systemd-invoke stop issuer-gateway.service issuer-node.service 'issuer@*.service' 'issuer-standby@*.service'
+    deb-systemd-invoke stop issuer-status.service issuer-gateway.service issuer-node.service
+    deb-systemd-invoke stop 'issuer@*.service' 'issuer-standby@*.service'
 fi
 """
 OVERRIDES = """\

@@ -35,6 +35,8 @@ class AllPartitions:
             PartitionNode(self.loop, settings, one, keys, figures_of(one, kinds), self.keeper)
             for one in settings.partitions
         ]
+        # Whether somebody sees that partitions are stopped while the node lives.
+        self.has_figures = kinds is not None
         self.readiness = Readiness(NAME)
         self.is_stopping = False
 
@@ -56,7 +58,8 @@ class AllPartitions:
         if all(state in READY for state in states):
             self.readiness.tell()
         self.readiness.look(", ".join(f"{states.count(state)} {state}" for state in sorted(set(states))))
-        if all(state == STOPPED for state in states) and not self.is_stopping:
+        if all(state == STOPPED for state in states) and not self.is_stopping and not self.has_figures:
+            # (else it stays, and its figures say so: of a node that has ended nobody knows what it lacks)
             self.status = Status.REFUSED
             self.loop.stop()
         self.loop.call_later(LOOK_SECONDS, self.look)

@@ -16,7 +16,7 @@ from typing import Optional
 
 from issuer_host.facts.limits import MAX_MESSAGE_BYTES
 from issuer_host.replication.cluster_keys import fingerprint_of
-from issuer_host.replication.messages import Mark, Message, MessageFault, parse
+from issuer_host.replication.messages import Mark, MessageFault
 
 DIGEST = "sha256"
 LAST_LINE = re.compile(rb"mac [0-9a-f]{64}\n")
@@ -42,10 +42,6 @@ class MessageMacs:
     def signed_by(self, key: bytes, text: str) -> bytes:
         body = text.encode("ascii")
         return body + self.line_of(key, body)
-
-    def message_of(self, body: bytes, has_headers: bool = False) -> Message:
-        """Returns what a node wrote. A message that counts nowhere is a MessageFault, which says why."""
-        return parse(self.read(body, has_headers))
 
     def read(self, body: bytes, has_headers: bool) -> str:
         """Returns the text of a message that a node wrote. Any other is a MessageFault."""

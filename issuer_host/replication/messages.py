@@ -1,4 +1,4 @@
-"""The messages of a partition's stream, and their text. `message_mac` has the line that follows it.
+"""The messages of a partition's stream, as far as a node knows them. `message_mac` has the line that follows each.
 
     barrier NUMBER NAME MACHINE     a bridge becomes the active one: records of this NAME count from here on
     records NAME SEQUENCE           and feed lines, SHARD PLACE RECORD: what the host of that bridge recorded
@@ -6,10 +6,11 @@
 
 The shard past the greatest one has the notes of work on cards (`notes`): they count as records do.
 
-A name is new for each barrier. A sequence only tells messages apart. A text of another form counts nowhere.
+The program that decides parses these texts, and makes those of barriers and records (`rule_events`). A node makes marks
+alone.
 """
 import re
-from typing import NamedTuple, Union
+from typing import NamedTuple
 
 from issuer_host.facts.limits import MAX_SHARDS
 
@@ -17,11 +18,7 @@ from issuer_host.facts.limits import MAX_SHARDS
 NOTES = MAX_SHARDS
 LOGS = MAX_SHARDS + 1
 NAME = re.compile(r"[0-9A-Za-z_.-]{1,64}")
-NUMBER = re.compile(r"0|[1-9][0-9]{0,17}")
-# How many records one message has at most: the longest ones too are within what a broker takes of a message.
-MAX_RECORDS = 100
-# How many characters a record has at most: those of a journal and the notes have 500.
-MAX_TEXT = 1_024
+MARK = "mark "
 # Characters of a text that a reason has.
 SHOWN = 40
 
@@ -30,7 +27,7 @@ Place = tuple[int, int]
 
 
 class MessageFault(Exception):
-    """A text that is no message of a stream, or that no node wrote: it counts nowhere."""
+    """A text that no node wrote: it counts nowhere."""
 
 
 class Record(NamedTuple):
@@ -40,12 +37,10 @@ class Record(NamedTuple):
     place: int
     text: str
 
-    @property
-    def at(self) -> tuple[int, int]:
-        return self.shard, self.place
-
 
 class Barrier(NamedTuple):
+    """The bridge that becomes the active one: its number in turn, a name that none had before, and its machine."""
+
     number: int
     name: str
     machine: str
@@ -54,65 +49,17 @@ class Barrier(NamedTuple):
 NO_BARRIER = Barrier(0, "", "")
 
 
-class Records(NamedTuple):
-    name: str
-    sequence: int
-    records: tuple[Record, ...]
-
-
 class Mark(NamedTuple):
+    """A word that says nothing."""
+
     word: str
 
 
-Message = Union[Barrier, Records, Mark]
+def text_of(mark: Mark) -> str:
+    """Returns a mark as it stands in the stream."""
+    return f"{MARK}{mark.word}\n"
 
 
-def text_of(message: Message) -> str:
-    """Returns a message as it stands in the stream."""
-    if isinstance(message, Barrier):
-        return f"barrier {message.number} {message.name} {message.machine}\n"
-    if isinstance(message, Mark):
-        return f"mark {message.word}\n"
-    lines = (f"{record.shard} {record.place} {record.text}\n" for record in message.records)
-    return f"records {message.name} {message.sequence}\n" + "".join(lines)
-
-
-def parse(text: str) -> Message:
-    """Returns the message of a text. Raises MessageFault if it is none."""
-    if not text.endswith("\n"):
-        raise MessageFault("its last line isn't ended")
-    head, *lines = text.split("\n")[:-1]
-    kind, *words = head.split(" ")
-    if len(lines) > MAX_RECORDS:
-        raise MessageFault(f"it has {len(lines)} records, and {MAX_RECORDS} are the most")
-    if kind == "records" and len(words) == 2:
-        return Records(name_of(words[0]), number_of(words[1]), tuple(map(record_of, lines)))
-    if lines:
-        raise MessageFault(f"lines follow {head[:SHOWN]!r}")
-    if kind == "barrier" and len(words) == 3:
-        return Barrier(number_of(words[0]), name_of(words[1]), name_of(words[2]))
-    if kind == "mark" and len(words) == 1:
-        return Mark(name_of(words[0]))
-    raise MessageFault(f"no message begins with {head[:SHOWN]!r}")
-
-
-def record_of(line: str) -> Record:
-    shard, _, rest = line.partition(" ")
-    place, _, text = rest.partition(" ")
-    if not text or number_of(shard) >= LOGS:
-        raise MessageFault(f"no feed line is {line[:SHOWN]!r}")
-    if len(text) > MAX_TEXT:
-        raise MessageFault(f"a record has {len(text)} characters, and {MAX_TEXT} are the most")
-    return Record(number_of(shard), number_of(place), text)
-
-
-def name_of(word: str) -> str:
-    if not NAME.fullmatch(word):
-        raise MessageFault(f"no name is {word[:SHOWN]!r}")
-    return word
-
-
-def number_of(word: str) -> int:
-    if not NUMBER.fullmatch(word):
-        raise MessageFault(f"no number is {word[:SHOWN]!r}")
-    return int(word)
+def is_mark(text: str) -> bool:
+    """Whether a text that a node wrote is a mark."""
+    return text.startswith(MARK)

@@ -1,7 +1,7 @@
 """The file that says what a node runs: NODE.json.
 
     {"machine": "m1", "broker_file": "/path/url-file", "cluster_key_file": "/path/key",
-     "program": "/path/issuer (may be absent)", "rule": "/path/program (may be absent)",
+     "program": "/path/issuer (may be absent)", "rule": "/path/issuer-rule (may be absent)",
      "partitions": [{"number": 0, "configuration": "/path/0.json", "journal": "/path/journals/0", "callers": 1,
                      "orders": "/path/0.sock (may be absent)",
                      "last_run": "/path/last-run-0 (may be absent)"}],
@@ -59,7 +59,7 @@ class NodeSettings(NamedTuple):
     # The file of the keys that the cluster's nodes share.
     cluster_key_file: str
     program: Optional[str]
-    # A program that decides by the rule, in place of the rule of the node's own process.
+    # Another program that decides by the rule than the proved one; none if it is empty.
     rule: str
     partitions: "tuple[PartitionSettings, ...]"
     # The port of the figures; 0 if there are none.
@@ -112,7 +112,5 @@ def check(path: str, settings: NodeSettings) -> None:
     for partition in settings.partitions:
         if not CALLERS.takes(str(partition.callers)):
             raise Refusal(f"{path}: the callers of partition {partition.number} are {CALLERS.rule}")
-    if settings.rule and settings.window > MOST_BEYOND:
-        raise Refusal(f"{path}: with a program that decides the window is {MOST_BEYOND} at most")
-    if settings.window < 1 or not 0 <= settings.figures < 1 << 16:
-        raise Refusal(f"{path}: the window is 1 at least, and the port of the figures a port or 0")
+    if not 1 <= settings.window <= MOST_BEYOND or not 0 <= settings.figures < 1 << 16:
+        raise Refusal(f"{path}: the window is 1 to {MOST_BEYOND}, and the port of the figures a port or 0")

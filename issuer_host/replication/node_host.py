@@ -10,11 +10,11 @@ from issuer_host.host.event_loop import Action, Loop
 from issuer_host.host.line_host import HostSettings
 from issuer_host.orders.partition_host import PartitionHost
 from issuer_host.replication.node_file import NodeSettings, PartitionSettings
+from issuer_host.replication.node_stops import StepGuard
 from issuer_host.replication.notes import NotedWork, Notes
 from issuer_host.replication.queue_consumer import QueueConsumer
 from issuer_host.replication.replica import Replica
 from issuer_host.replication.standby_run import TransientFault
-from issuer_host.replication.step_guard import StepGuard
 from issuer_host.start.careful_start import NODE
 from issuer_host.telling.figures import Figures
 
@@ -35,7 +35,7 @@ class NodeHost:
         figures: Figures,
         consumer: QueueConsumer,
     ) -> None:
-        self.loop, self.guard, self.consumer = loop, guard, consumer
+        self.loop, self.guard, self.consumer, self.machine = loop, guard, consumer, node.machine
         # The replica whose journals the host has; None while the partition has none.
         self.replica: Optional[Replica] = None
         # How many hosts in turn ended before they had loaded the journals.
@@ -47,6 +47,7 @@ class NodeHost:
         self.serving = PartitionHost(
             loop, host, figures, consumer.replies, self, self, NotedWork(settings.journal, self, name)
         )
+        self.serving.orders.served_by = self.served_by
 
     def begin(self) -> None:
         """Opens the socket of orders."""
@@ -134,4 +135,13 @@ class NodeHost:
         if self.serving.is_served:
             return ""
         self.consumer.wake()
-        return "this machine doesn't serve the partition: order at the one that does, or here in a moment"
+        machine = self.served_by()
+        if machine:
+            here = self.machine
+            return f"{machine} serves the partition, and {here} doesn't: order at {machine}, or here in a moment"
+        return f"{self.machine} doesn't serve the partition, and knows of no machine that does: order again in a moment"
+
+    def served_by(self) -> str:
+        """Returns the machine of the last barrier that counts; nothing if it is this one, or none is known."""
+        found = "" if self.replica is None else self.replica.rule.barrier.machine
+        return "" if found == self.machine else found

@@ -23,7 +23,7 @@ from issuer_host.files.summed_lines import may_be_torn, said_of, summed
 from issuer_host.files.whole_writes import write_whole
 from issuer_host.host.event_loop import Action
 from issuer_host.orders.intent_log import Begun, DECLINE, ENDING, KNOWN, MOST_LINES, WorkFile
-from issuer_host.orders.texts import FORMS
+from issuer_host.orders.order_types import TYPES
 from issuer_host.replication.messages import NOTES
 
 FIRST = "first"
@@ -31,7 +31,7 @@ FIRST = "first"
 NUMBER = re.compile(r"[0-9A-Za-z/-]{1,60}")
 BEGUN = {
     "number": NUMBER,
-    "form": re.compile(rf"|[{''.join(FORMS)}]|{DECLINE}"),
+    "form": re.compile(rf"|[{''.join(TYPES)}]|{DECLINE}"),
     "pan": re.compile(r"|[0-9]{8,20}"),
     "psn": re.compile(r"|[0-9]{2}"),
     "value": re.compile(r"[0-9a-f]{0,64}"),

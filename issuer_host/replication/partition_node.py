@@ -14,8 +14,6 @@ A request goes this way:
    counts it, and lets the answer go: `PartitionHost.answered`.
 4. `ReplySender.send` sends the reply, and acknowledges the request once the broker has confirmed that.
 """
-import fcntl
-import os
 import time
 from typing import Optional
 
@@ -24,26 +22,24 @@ from issuer_host.broker.types import Channel
 from issuer_host.broker.unacknowledged import Delivered
 from issuer_host.facts.refusal import Refusal
 from issuer_host.files.open_journals import FirstJournals, REPLACED
-from issuer_host.files.regular_files import open_regular
 from issuer_host.host.event_loop import Action, Loop
 from issuer_host.replication import positions
 from issuer_host.replication.cluster_keys import ClusterKeys
+from issuer_host.replication.journal_lock import locked
 from issuer_host.replication.message_mac import MessageMacs
 from issuer_host.replication.node_file import NodeSettings, PartitionSettings
 from issuer_host.replication.node_host import NodeHost
+from issuer_host.replication.node_stops import StepGuard
 from issuer_host.replication.queue_consumer import QueueConsumer
 from issuer_host.replication.replica import Replica
 from issuer_host.replication.rule_events import State
-from issuer_host.replication.standby_run import TransientFault
 from issuer_host.replication.state_teller import StateTeller
-from issuer_host.replication.step_guard import StepGuard
 from issuer_host.telling.figures import Figures
 
 # A partition that something failed in begins again after so long, twice as long each time up to a limit; as at first
 # when nothing failed for a while.
 FIRST_DELAY, LAST_DELAY, STEADY_SECONDS = 0.5, 4.0, 60.0
 STOPPED = "stopped"
-LOCK = ".node"
 
 
 class PartitionNode:
@@ -137,6 +133,7 @@ class PartitionNode:
 
     def look(self, now: float) -> None:
         """A look every half second."""
+        self.teller.connected(self.consumer.is_connected)
         self.refuse_others()
         replica = self.replica
         if replica is None:
@@ -170,6 +167,7 @@ class PartitionNode:
         """Ends what runs over the journals. Nobody is answered."""
         self.consumer.forget()
         self.host.kill()
+        self.teller.ended()
         if self.replica is not None:
             self.replica.end()
         self.replica = self.host.replica = None
@@ -192,14 +190,3 @@ class PartitionNode:
 
     def tell_state(self, why: str = "") -> None:
         self.teller.tell(self.state(), why)
-
-
-def locked(journal: str) -> int:
-    """Locks the journals for this node for as long as it lives."""
-    file = open_regular(journal + LOCK, os.O_RDWR | os.O_CREAT)
-    try:
-        fcntl.flock(file, fcntl.LOCK_EX | fcntl.LOCK_NB)
-    except BlockingIOError as fault:
-        os.close(file)
-        raise TransientFault(f"another node has the journals {journal}") from fault
-    return file

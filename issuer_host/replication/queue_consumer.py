@@ -10,8 +10,8 @@ from issuer_host.broker.types import Channel, Delivery, Properties, Step
 from issuer_host.broker.unacknowledged import Delivered, entry_of
 from issuer_host.host.event_loop import Loop
 from issuer_host.replication.node_file import NodeSettings
+from issuer_host.replication.node_stops import StepGuard
 from issuer_host.replication.state_teller import REASON
-from issuer_host.replication.step_guard import StepGuard
 
 # What has the node begin that the queue delivers to. It is no request: a publisher can't write it to where it counts.
 WAKE = b"wake"

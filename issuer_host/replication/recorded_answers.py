@@ -5,8 +5,8 @@ from issuer_host.facts.answers import RECORDED
 from issuer_host.host.event_loop import Action, Loop
 from issuer_host.replication.journal_files import JournalFiles
 from issuer_host.replication.messages import Place
+from issuer_host.replication.node_stops import StepGuard
 from issuer_host.replication.rule_turns import RuleTurns
-from issuer_host.replication.step_guard import StepGuard
 from issuer_host.replication.stream_reader import StreamReader
 
 

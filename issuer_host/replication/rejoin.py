@@ -1,29 +1,38 @@
-"""Starts a node of the broker again that goes on without the others, so that it joins them.
+"""Watches the broker's node of this machine: mends what mends by itself, says what doesn't, and gives figures of it.
 
-usage: rejoin [--every SECONDS] [--control COMMAND]
+usage: rejoin [--every SECONDS] [--control COMMAND] [--vhost NAME] [--hung SECONDS] [--kill COMMAND] [--figures PORT]
 
 --every    how often it looks (10)
---control  the command that controls the broker (rabbitmqctl)
+--control  the command that controls the broker (rabbitmqctl); to ask another node, it is given --node
+--vhost    the virtual host (/)
+--hung     how long a node may not run while others do, until it is killed (60); twice as long after each time
+--kill     the command that kills this machine's broker, which its service manager starts again
+           (systemctl kill --signal=KILL rabbitmq-server)
+--figures  serves figures at this port of the loopback: brokers, copies of queues and streams, alarms
 
 A machine that stood still for a while may go on with a node of the broker that has lost all others, and that they have
 lost. By then all hear one another, so `pause_minority` ends no node. A reply queue of the one isn't known to the
-others: their answers go nowhere, and so it stays. This looks for such a node, stops it, and starts it again. Run it
-beside each node of a cluster, as the broker's user or root, under a service manager.
+others: their answers go nowhere, and so it stays. This looks for such a node, stops it, and starts it again. It kills
+one that hangs in its start while the others run. One that runs in a cluster of its own, as on a new disk, it reports:
+issuer-replace gives it its place. Run it beside each node of a cluster, as the broker's user or root, under a service
+manager. End it before you stop a broker's node for longer than a minute.
 """
 import argparse
+import shlex
 import subprocess
 import time
 from collections.abc import Sequence
-from typing import NamedTuple
+from typing import NamedTuple, Optional
 
-from issuer_host.facts.refusal import tell
+from issuer_host.broker.redundancy import Redundancy, redundancy_of, what_is_lost
+from issuer_host.broker.settings import COMMAND, Control
+from issuer_host.broker.watching import Act, BrokerWatch, HUNG_SECONDS
+from issuer_host.facts.refusal import Refusal, tell
+from issuer_host.telling.broker_figures import page_of
+from issuer_host.telling.figures_server import FiguresServer
 
 NAME = "rejoin"
-# Whether this node runs, and has lost all others that its cluster has.
-HAS_LOST_ALL = """\
-Others = rabbit_mnesia:cluster_nodes(all) -- [node()],
-Others =/= [] andalso Others -- rabbit_node_monitor:partitions() =:= []."""
-LOST = "true"
+KILL = "systemctl kill --signal=KILL rabbitmq-server"
 # A start that fails, as while the others are gone, is tried again after so long.
 AGAIN_SECONDS = 2.0
 
@@ -33,37 +42,91 @@ class RejoinOptions(NamedTuple):
 
     every: float
     control: str
+    vhost: str
+    hung: float
+    kill: str
+    figures: int
 
 
 def options_of(words: Sequence[str]) -> RejoinOptions:
     parser = argparse.ArgumentParser(usage=__doc__)
     parser.add_argument("--every", type=float, default=10.0)
-    parser.add_argument("--control", default="rabbitmqctl")
+    parser.add_argument("--control", default=COMMAND)
+    parser.add_argument("--vhost", default="/")
+    parser.add_argument("--hung", type=float, default=HUNG_SECONDS)
+    parser.add_argument("--kill", default=KILL)
+    parser.add_argument("--figures", type=int, default=0)
     return RejoinOptions(**vars(parser.parse_args(words)))
 
 
-def control(command: str, *words: str) -> "subprocess.CompletedProcess[str]":
-    return subprocess.run([command, "--quiet", *words], capture_output=True, text=True, check=False)
+class Watcher:
+    """Looks at the node, and does what its state asks for."""
 
+    def __init__(self, options: RejoinOptions) -> None:
+        self.options = options
+        self.watch = BrokerWatch(options.hung)
+        self.page = b""
+        self.told: list[str] = []
 
-def has_lost_all(command: str) -> bool:
-    """Whether the node goes on without the others. One that doesn't run, or is paused, doesn't."""
-    looked = control(command, "eval", HAS_LOST_ALL)
-    return looked.returncode == 0 and looked.stdout.strip() == LOST
+    def control(self, *node: str) -> Control:
+        return Control(self.options.control, self.options.vhost, node)
 
+    def seen(self, *node: str) -> Optional[Redundancy]:
+        """Returns what a node sees; nothing if it doesn't answer."""
+        try:
+            return redundancy_of(self.control(*node))
+        except (Refusal, ValueError):
+            return None
 
-def start_again(command: str) -> None:
-    tell(NAME, "the broker's node goes on without the others: it is started again")
-    control(command, "stop_app")
-    while (started := control(command, "start_app")).returncode:
-        tell(NAME, f"the broker's node doesn't start: {(started.stderr or started.stdout).strip()[:200]}")
-        time.sleep(AGAIN_SECONDS)
-    tell(NAME, "the broker's node has joined the others")
+    def runs(self, broker: str) -> bool:
+        seen = self.seen("--node", broker)
+        return seen is not None and seen.runs
+
+    def look(self) -> None:
+        seen = self.seen()
+        self.page = page_of(seen, time.time()).encode()
+        act = self.watch.look(time.monotonic(), seen, self.runs)
+        if act is Act.START_AGAIN:
+            self.start_again()
+        elif act is Act.KILL:
+            tell(NAME, act.value)
+            self.kill()
+        elif act is Act.TELL_ALONE and seen is not None:
+            others = seen.others()
+            tell(NAME, f"{act.value}: issuer-replace {seen.node} --by {others[0]}")
+        self.tell_lost(what_is_lost(seen) if seen is not None and seen.runs and not seen.is_of_its_own() else [])
+
+    def tell_lost(self, lost: list[str]) -> None:
+        """Tells each copy that is missing once, and once that all are there again."""
+        for line in lost:
+            if line not in self.told:
+                tell(NAME, line)
+        if self.told and not lost:
+            tell(NAME, "nothing is missing any more, by this node")
+        self.told = lost
+
+    def start_again(self) -> None:
+        tell(NAME, Act.START_AGAIN.value)
+        control = self.control()
+        stop = [control.command, "--quiet", "stop_app"]
+        subprocess.run(stop, capture_output=True, check=False)
+        start = [control.command, "--quiet", "start_app"]
+        while (started := subprocess.run(start, capture_output=True, text=True, check=False)).returncode:
+            tell(NAME, f"the broker's node doesn't start: {(started.stderr or started.stdout).strip()[:200]}")
+            time.sleep(AGAIN_SECONDS)
+        tell(NAME, "the broker's node has joined the others")
+
+    def kill(self) -> None:
+        killed = subprocess.run(shlex.split(self.options.kill), capture_output=True, text=True, check=False)
+        if killed.returncode:
+            tell(NAME, f"the broker can't be killed: {(killed.stderr or killed.stdout).strip()[:200]}")
 
 
 def main(words: Sequence[str]) -> int:
     options = options_of(words)
+    watcher = Watcher(options)
+    if options.figures:
+        FiguresServer(options.figures, lambda: watcher.page).start()
     while True:
-        if has_lost_all(options.control):
-            start_again(options.control)
+        watcher.look()
         time.sleep(options.every)

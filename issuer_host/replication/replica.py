@@ -4,33 +4,27 @@ It does what `rule_turns.RuleOutside` asks for. A partition that begins again ha
 """
 from typing import Any, Protocol
 
-from issuer_host.facts.paths import RULE
-from issuer_host.facts.proof import is_proved
-from issuer_host.facts.refusal import tell
 from issuer_host.host.command import INPUT, StartOptions, command_of
 from issuer_host.host.event_loop import Action, Loop
 from issuer_host.replication import positions
-from issuer_host.replication.bridge_rule import BridgeRule
 from issuer_host.replication.journal_files import JournalFiles
 from issuer_host.replication.message_mac import MessageMacs
 from issuer_host.replication.messages import NOTES
 from issuer_host.replication.node_file import NodeSettings, PartitionSettings
+from issuer_host.replication.node_stops import StepGuard
 from issuer_host.replication.position_keeper import PositionKeeper
 from issuer_host.replication.positions import Position
 from issuer_host.replication.recorded_answers import RecordedAnswers
-from issuer_host.replication.rule_events import Beginning, PartitionRule, State
+from issuer_host.replication.rule_choice import rule_path
+from issuer_host.replication.rule_events import Beginning, State
 from issuer_host.replication.rule_program import RuleProgram
 from issuer_host.replication.rule_turns import RuleTurns
 from issuer_host.replication.standby_run import StandbyRun
 from issuer_host.replication.state_teller import ReplicaState
-from issuer_host.replication.step_guard import StepGuard
 from issuer_host.replication.stream import Place as StreamPlace, Stream
 from issuer_host.replication.stream_reader import StreamReader
 from issuer_host.start.careful_start import NODE
 from issuer_host.start.held_configuration import shards_of
-
-
-NAME = "node"
 
 
 class ReplicaOwner(Protocol):
@@ -72,7 +66,7 @@ class Replica:
         place = StreamPlace(found.offset, found.digest)
         self.stream = Stream(loop, macs, place, lambda: self.reader.call(), owner.tell_state)
         beginning = Beginning(node.machine, found.barrier, found.counts)
-        self.rule = RuleTurns(new_rule(node, beginning), beginning, self.journals, self)
+        self.rule = RuleTurns(RuleProgram([rule_path(node)], beginning), beginning, self.journals, self)
         self.reader = StreamReader(loop, guard, self.stream, self.journals, self.rule, self)
         self.answers = RecordedAnswers(loop, guard, self.journals, self.rule, self.reader)
         self.positions = PositionKeeper(writer, settings.journal, self.journals, found, self)
@@ -170,15 +164,6 @@ class Replica:
         self.rule.end()
         self.journals.standby.kill()
         self.stream.lost()
-
-
-def new_rule(node: NodeSettings, beginning: Beginning) -> PartitionRule:
-    """Returns the rule that decides for a partition."""
-    if node.rule:
-        if not is_proved(node.rule, name=RULE):
-            tell(NAME, f"{node.rule} isn't the proved program: nothing is proved of what it decides")
-        return RuleProgram([node.rule], beginning)
-    return BridgeRule(beginning)
 
 
 def journals_of(

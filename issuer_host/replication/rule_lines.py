@@ -1,4 +1,4 @@
-"""Events and actions of a rule as lines: what a program that decides reads and writes.
+"""Events and actions of a rule as lines: what the program that decides reads and writes.
 
     position NUMBER NAME MACHINE    the barrier that counts; `position 0` if none does
     machine NAME                    the machine's own name
@@ -14,10 +14,9 @@ Each line but `message` with its text is a turn. It is answered by any number of
     position NUMBER NAME MACHINE    this barrier counts now
     count SHARD NUMBER              so many records of a shard count now
 """
-from collections.abc import Iterator, Sequence
 from typing import Union
 
-from issuer_host.replication.messages import Barrier, LOGS, NO_BARRIER, record_of
+from issuer_host.replication.messages import Barrier, LOGS, NO_BARRIER, Record
 from issuer_host.replication.rule_events import (
     Action,
     Again,
@@ -35,7 +34,6 @@ from issuer_host.replication.rule_events import (
     HostLoaded,
     Lost,
     MessageRead,
-    Publish,
     Ready,
     RecordsCount,
     Reply,
@@ -87,82 +85,39 @@ def lines_of_event(event: Event) -> "list[str]":
     return [next(word for word, plain in PLAIN_EVENTS.items() if plain == event and type(plain) is type(event))]
 
 
-def lines_of_action(action: Action) -> "list[str]":
-    """Returns the lines of an action."""
-    if isinstance(action, AppendRecord):
-        return [f"put {action.record.shard} {action.record.place} {action.record.text}"]
-    if isinstance(action, TruncateJournal):
-        return [f"cut {action.shard} {action.length}"]
-    if isinstance(action, BarrierCounts):
-        return [line_of_barrier(action.barrier)]
-    if isinstance(action, RecordsCount):
-        return [f"count {action.shard} {action.number}"]
-    if isinstance(action, Publish):
-        text = lines_of_text(action.text)
-        return [f"publish {len(text)}", *text]
-    if isinstance(action, Reply):
-        return [f"reply {action.number}"]
-    if isinstance(action, Stop):
-        return [f"stop {action.why}"]
-    return [next(word for word, plain in PLAIN_ACTIONS.items() if type(plain) is type(action))]
-
-
 def lines_of_text(text: str) -> "list[str]":
     """Returns the lines of a text. One whose last line isn't ended is no message, as "", and has none."""
     *lines, rest = text.split("\n")
     return [] if rest else lines
 
 
-def text_of_lines(count: str, lines: "Iterator[str]") -> str:
-    return "".join(f"{next(lines)}\n" for _ in range(int(count)))
-
-
-def beginning_of(lines: Sequence[str]) -> Beginning:
-    """Returns what a rule begins with, of its lines."""
-    barrier, machine, counts = NO_BARRIER, "", [0] * LOGS
-    for line in lines:
-        word, *words = line.split(" ")
-        if word == "position" and len(words) == 3:
-            barrier = Barrier(int(words[0]), words[1], words[2])
-        elif word == "machine":
-            machine = words[0]
-        elif word == "count":
-            counts[int(words[0])] = int(words[1])
-    return Beginning(machine, barrier, tuple(counts))
-
-
-def event_of(line: str, lines: "Iterator[str]") -> Event:
-    """Returns the event of a line, and of the lines after it that belong to it."""
-    word, _, rest = line.partition(" ")
-    if word == "has":
-        return Has(record_of(rest))
-    if word == "connected":
-        return Connected(rest)
-    if word == "called":
-        return Called(rest)
-    if word == "message":
-        return MessageRead(text_of_lines(rest, lines))
-    if word == "answered":
-        number, *place = map(int, rest.split(" "))
-        return Answered(number, (place[0], place[1]) if place else None)
-    return PLAIN_EVENTS[word]
-
-
-def action_of(line: str, lines: "Iterator[str]") -> Action:
-    """Returns the action of a line, and of the lines after it that belong to it."""
+def action_of(line: str) -> Action:
+    """Returns the action of a line. A line that is none of one line is a ValueError or a KeyError."""
     word, _, rest = line.partition(" ")
     if word == "put":
-        return AppendRecord(record_of(rest))
+        shard, place, text = rest.split(" ", 2)
+        return AppendRecord(Record(shard_of(shard), number_of(place), text))
     if word == "position":
         number, name, machine = rest.split(" ")
-        return BarrierCounts(Barrier(int(number), name, machine))
+        return BarrierCounts(Barrier(number_of(number), name, machine))
     if word in OF_SHARDS:
-        shard, length = map(int, rest.split(" "))
-        return OF_SHARDS[word](shard, length)
-    if word == "publish":
-        return Publish(text_of_lines(rest, lines))
+        shard, length = rest.split(" ")
+        return OF_SHARDS[word](shard_of(shard), number_of(length))
     if word == "reply":
-        return Reply(int(rest))
+        return Reply(number_of(rest))
     if word == "stop":
         return Stop(rest)
     return PLAIN_ACTIONS[word]
+
+
+def shard_of(word: str) -> int:
+    shard = number_of(word)
+    if shard >= LOGS:
+        raise ValueError(f"no shard is {word}")
+    return shard
+
+
+def number_of(word: str) -> int:
+    if not word.isdecimal():
+        raise ValueError(f"no number is {word!r}")
+    return int(word)

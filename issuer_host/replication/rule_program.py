@@ -1,24 +1,33 @@
-"""A rule that is a program: events are lines to it, and actions lines of it (`rule_lines`).
+"""The rule is a program: events are lines to it, and actions lines of it (`rule_lines`).
 
 One process decides for one partition, from a position on. It has no file, no connection and no clock. A node writes the
 turns of what happened together and reads their answers, which takes some microseconds. If the program ends, is silent,
 or answers what is no answer, another one begins from the position: until then nobody is answered.
+
+The node's loop stands still while a program answers, with all partitions of the machine. So a silent one is left soon.
 """
 import contextlib
 import os
 import select
+import signal
 import subprocess
 import time
 from collections.abc import Callable, Sequence
 
-from issuer_host.replication.messages import MessageFault, SHOWN
+from issuer_host.replication.messages import SHOWN
 from issuer_host.replication.rule_events import Action, Beginning, Event, Publish, Stop
-from issuer_host.replication.rule_lines import TURN_END, action_of, lines_of_beginning, lines_of_event
+from issuer_host.replication.rule_lines import TURN_END, action_of, lines_of_beginning, lines_of_event, number_of
 from issuer_host.replication.standby_run import TransientFault
 
-# A program that answers nothing for so long is killed: a turn takes it some microseconds.
-SILENT_SECONDS = 5.0
-END_SECONDS = 1.0
+# A program whose answer isn't whole after so long is killed. A turn takes it some microseconds; where fifty programs
+# waited for four processors, one of a million turns took half a second.
+SILENT_SECONDS = 1.0
+# A wait counts for so long at most. If a whole machine stood still, its programs get time before they are left.
+WAIT_SECONDS = 0.05
+# How long the end of a program is waited for that was killed, or that has closed its output.
+END_SECONDS = 0.2
+# A program needs nothing of the node's environment.
+ENVIRONMENT: "dict[str, str]" = {}
 PIECE = 1 << 16
 PUBLISH = "publish "
 
@@ -27,15 +36,13 @@ class RuleProgram:
     """`rule_events.PartitionRule` by a process of its own."""
 
     def __init__(
-        self,
-        command: Sequence[str],
-        beginning: Beginning,
-        seconds: float = SILENT_SECONDS,
-        clock: Callable[[], float] = time.monotonic,
+        self, command: Sequence[str], beginning: Beginning, clock: Callable[[], float] = time.monotonic
     ) -> None:
-        self.seconds, self.clock = seconds, clock
+        self.clock = clock
         # (if the node dies both pipes end, and so does the program)
-        self.process = subprocess.Popen(command, stdin=subprocess.PIPE, stdout=subprocess.PIPE, bufsize=0)
+        self.process = subprocess.Popen(
+            command, stdin=subprocess.PIPE, stdout=subprocess.PIPE, bufsize=0, env=ENVIRONMENT
+        )
         assert self.process.stdin is not None and self.process.stdout is not None
         self.input, self.output = self.process.stdin, self.process.stdout
         for pipe in (self.input, self.output):
@@ -61,20 +68,26 @@ class RuleProgram:
     def end(self) -> None:
         """Ends the program: it has nothing that another one needs."""
         self.process.kill()
-        self.process.wait()
         self.input.close()
         self.output.close()
+        # (one that a disk holds ends later, and nobody waits for it)
+        with contextlib.suppress(subprocess.TimeoutExpired):
+            self.process.wait(END_SECONDS)
 
     def ask(self, turns: "Sequence[Sequence[str]]") -> "Sequence[Action]":
-        """Writes the lines of turns, and returns the actions of their answers."""
+        """Writes the lines of turns, and returns the actions of their answers, which have to be whole in time."""
         text = "".join(f"{line}\n" for turn in turns for line in turn)
         unwritten = memoryview(text.encode("latin-1"))
         answer = TurnAnswers(len(turns))
-        deadline = self.clock() + self.seconds
+        waited, last = 0.0, self.clock()
         while not answer.is_whole:
             unwritten = self.write(unwritten)
-            self.wait(bool(unwritten), deadline)
+            self.wait(bool(unwritten))
             self.read(answer)
+            now = self.clock()
+            waited, last = waited + min(now - last, WAIT_SECONDS), now
+            if waited >= SILENT_SECONDS and not answer.is_whole:
+                raise TransientFault(f"the rule's program hasn't answered within {SILENT_SECONDS} seconds")
         return answer.actions
 
     def write(self, unwritten: memoryview) -> memoryview:
@@ -87,12 +100,9 @@ class RuleProgram:
             # (it is ending; its output's end says how)
             return unwritten[:0]
 
-    def wait(self, writes: bool, deadline: float) -> None:
-        """Waits until the program has answered, or takes more."""
-        poll = self.both if writes else self.answers
-        left = deadline - self.clock()
-        if left <= 0 or not poll.poll(left * 1000):
-            raise TransientFault(f"the rule's program answered nothing for {self.seconds:.0f} seconds")
+    def wait(self, writes: bool) -> None:
+        """Waits a moment until the program answers, or takes more."""
+        (self.both if writes else self.answers).poll(1000 * WAIT_SECONDS)
 
     def read(self, answer: "TurnAnswers") -> None:
         """Takes what the program has answered so far."""
@@ -104,7 +114,7 @@ class RuleProgram:
                 raise TransientFault(f"the rule's program ended with {self.status()}")
             try:
                 answer.take(piece)
-            except (ValueError, KeyError, MessageFault) as fault:
+            except (ValueError, KeyError) as fault:
                 raise TransientFault(f"the rule's program answered what is no answer: {fault}") from fault
 
     def status(self) -> int:
@@ -112,7 +122,9 @@ class RuleProgram:
         with contextlib.suppress(subprocess.TimeoutExpired):
             return self.process.wait(END_SECONDS)
         self.process.kill()
-        return self.process.wait()
+        with contextlib.suppress(subprocess.TimeoutExpired):
+            return self.process.wait(END_SECONDS)
+        return -signal.SIGKILL
 
 
 class TurnAnswers:
@@ -129,7 +141,7 @@ class TurnAnswers:
         self.lines_of_message = 0
 
     def take(self, piece: bytes) -> None:
-        """Takes the next bytes. A ValueError, a KeyError or a MessageFault says that they are no answer."""
+        """Takes the next bytes. A ValueError or a KeyError says that they are no answer."""
         *lines, self.unread = (self.unread + piece).split(b"\n")
         for line in lines:
             self.take_line(line.decode("latin-1"))
@@ -143,9 +155,9 @@ class TurnAnswers:
             self.turns -= 1
             self.is_whole = not self.turns
         elif line.startswith(PUBLISH):
-            self.lines_of_message = int(line[len(PUBLISH) :])
+            self.lines_of_message = number_of(line[len(PUBLISH) :])
         else:
-            self.actions.append(action_of(line, iter(())))
+            self.actions.append(action_of(line))
             if self.stops():
                 self.turns = 1
 

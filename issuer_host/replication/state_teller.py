@@ -5,11 +5,18 @@ from typing import NamedTuple
 from issuer_host.broker.unacknowledged import Flight
 from issuer_host.commands.entry import without_cards
 from issuer_host.facts.refusal import tell
+from issuer_host.replication.rule_events import State
 from issuer_host.telling.figures import Figures
 from issuer_host.facts.limited import LimitedTelling
 
+# In these states a machine does its part.
+FOLLOWING = (State.WAITING.value, State.BEGINNING.value, State.SERVING.value)
 # Bytes of a reason that the broker is told.
 REASON = 200
+# In these states a partition is well; from then on each reason is told again.
+SETTLED = (State.WAITING.value, State.SERVING.value)
+# So many states with reasons are remembered.
+MOST_TOLD = 50
 
 
 class ReplicaState(NamedTuple):
@@ -29,15 +36,24 @@ class StateTeller:
         self.name, self.figures = name, figures
         self.limited = LimitedTelling(lambda text: tell(self.name, text))
         self.state = self.why = ""
+        # What was told since the partition was well.
+        self.told: "set[str]" = set()
         # How many records counted at the last look, and when one counted last, or none waited to.
         self.counted = 0
         self.moved = time.monotonic()
 
     def tell(self, state: str, why: str = "") -> None:
-        if state != self.state or why and why != self.why:
-            tell(self.name, f"{state}: {why}" if why else state)
-            self.why = why
-        self.state = state
+        """Tells a state or a reason that is new. Two by turns are told once each, until the partition is well again."""
+        self.figures.following.set(state in FOLLOWING)
+        if state == self.state and (not why or why == self.why):
+            return
+        said = f"{state}: {why}" if why else state
+        if state in SETTLED and state != self.state or len(self.told) == MOST_TOLD:
+            self.told.clear()
+        if said not in self.told:
+            self.told.add(said)
+            tell(self.name, said)
+        self.state, self.why = state, why
 
     def has_told(self, reason: str) -> bool:
         """Whether what the broker says is what this partition closed the connection for."""
@@ -62,10 +78,18 @@ class StateTeller:
         said = f"message {offset} of {stream} is passed over, as no node wrote it: {without_cards(why)}"
         self.limited.tell(said)
 
+    def connected(self, is_connected: bool) -> None:
+        self.figures.connected.set(is_connected)
+
     def lost(self) -> None:
         """The connection was lost."""
         self.figures.losses.inc()
 
+    def ended(self) -> None:
+        """What ran over the journals has ended: nothing waits, and nobody is served from here."""
+        self.moved = time.monotonic()
+        for figure in (self.figures.uncounted, self.figures.serving, self.figures.in_flight, self.figures.oldest):
+            figure.set(0)
+
     def stopped(self) -> None:
-        self.figures.serving.set(0)
         self.figures.stopped.set(1)

@@ -1,9 +1,8 @@
-"""One partition's stream at the broker: what is written to it, and what is read of it.
+"""One partition's stream at the broker: what is read of it, and beside that what is written to it (`stream_writer`).
 
-A confirm says nothing: the broker may confirm a message and lose it. Only what is read back is there. So writing has a
-channel of its own, and what doesn't come back is written again on a new one. Reading has a channel of its own too, and
-is ended by closing that: a stream bears no other end. A reader may stand still for ever after a stream's leader went:
-who hears nothing for a while reads on by a new one.
+Only what is read back is there. Reading has a channel of its own, and is ended by closing that: a stream bears no
+other end. A reader may stand still for ever after a stream's leader went: who hears nothing for a while reads on by a
+new one.
 
 Each reading begins with the message that was read last, which has to be the same. So a stream that lost its end, was
 made anew, or doesn't reach back so far is noticed.
@@ -13,21 +12,20 @@ have to be a node's: the first one of the stream, and the one that a position na
 cluster's key is noticed before it takes anything.
 """
 import collections
-import contextlib
 import uuid
 from collections.abc import Callable
 from typing import Any, NamedTuple, Optional
-
-import pika
 
 from issuer_host.broker import topology
 from issuer_host.broker.types import Channel, Delivery, Properties
 from issuer_host.broker.wire import keep_short_bodies
 from issuer_host.facts.refusal import Refusal
 from issuer_host.host.event_loop import Loop
+from issuer_host.replication.channels import close, is_usable
 from issuer_host.replication.message_mac import MessageMacs
 from issuer_host.replication.messages import Mark, MessageFault, text_of
 from issuer_host.replication.positions import BEFORE, digest_of, first_text
+from issuer_host.replication.stream_writer import StreamWriter
 
 # Messages that the broker sends before the first one of them is acknowledged, and so many are acknowledged together.
 PREFETCH, TOGETHER = 50, 20
@@ -36,11 +34,12 @@ AGAIN_SECONDS = 0.5
 FIRST, LAST = "first", "last"
 # Bytes of a reason that the broker gives.
 REASON = 160
-WRITTEN = pika.BasicProperties(delivery_mode=2, content_type="text/plain")
 # What a person does.
-DECLARE = "run deploy/queues --streams"
 COPY = "copy another machine's journals by deploy/node --copy"
-ANEW = "docs/OPERATIONS.md has how a stream is begun anew from the longest journals"
+ANEW = (
+    "begin it anew from the journals of the machine that served last, which need not be the longest ones: deploy/node"
+    " --anew finds that machine, and docs/OPERATIONS.md has the steps"
+)
 KEY = (
     "give this machine the cluster's keys, or begin a stream anew that was written without them; docs/MACHINES.md has"
     ' both, in "The cluster\'s key"'
@@ -92,11 +91,8 @@ class Stream:
         self.place = place
         self.signed = place
         self.connection: Any = None
-        self.writing: Optional[Channel] = None
+        self.writer = StreamWriter(macs, on_fault, self.closed)
         self.reading: Optional[Channel] = None
-        # What is written once the channel is open.
-        self.unwritten: collections.deque[bytes] = collections.deque()
-        self.is_open = False
         self.unread: collections.deque[StreamDelivery] = collections.deque()
         # How many messages that were read aren't acknowledged.
         self.unacknowledged = 0
@@ -109,57 +105,16 @@ class Stream:
 
     def open(self, connection: Any) -> None:
         self.connection = connection
-        self.open_writing()
+        self.writer.open(connection)
         self.open_reading()
 
     def lost(self) -> None:
         """The connection is lost. What wasn't written is written again by who wrote it."""
         self.connection = None
-        self.writing = self.reading = None
-        self.is_open = False
-        self.unwritten.clear()
+        self.writer.lost()
+        self.reading = None
         self.unread.clear()
         self.named.clear()
-
-    def is_usable(self) -> bool:
-        return self.connection is not None and bool(self.connection.is_open)
-
-    # Writing
-
-    def write(self, text: str) -> None:
-        """Signs and writes a message. It may come late, or never."""
-        self.unwritten.append(self.macs.signed(text))
-        self.flush()
-
-    def flush(self) -> None:
-        while self.is_open and self.unwritten and self.writing is not None and self.is_usable():
-            body = self.unwritten.popleft()
-            self.writing.basic_publish(topology.RECORDS, self.name, body, WRITTEN, mandatory=True)
-
-    def write_anew(self) -> None:
-        """Leaves the channel for another one: what is on its way may be lost."""
-        channel, self.writing = self.writing, None
-        self.is_open = False
-        self.unwritten.clear()
-        if channel is not None and self.is_usable():
-            close(channel)
-        self.open_writing()
-
-    def open_writing(self) -> None:
-        def opened(channel: Channel) -> None:
-            self.writing = channel
-            channel.add_on_close_callback(self.closed)
-            channel.add_on_return_callback(lambda *_: self.on_fault(f"no stream {self.name} is bound: {DECLARE}"))
-            # (without confirms the broker wouldn't write again, to a new leader, what the old one hadn't taken)
-            channel.confirm_delivery(lambda _: None, callback=lambda _: ready(channel))
-
-        def ready(channel: Channel) -> None:
-            if channel is self.writing:
-                self.is_open = True
-                self.flush()
-
-        if self.is_usable():
-            self.connection.channel(on_open_callback=opened)
 
     # Reading
 
@@ -178,13 +133,13 @@ class Stream:
             channel.basic_qos(prefetch_count=PREFETCH)
             channel.basic_consume(self.name, self.delivered, arguments={"x-stream-offset": start})
 
-        if self.is_usable():
+        if is_usable(self.connection):
             self.connection.channel(on_open_callback=opened)
 
     def read_anew(self) -> None:
         """Leaves the channel for another one: the broker may deliver nothing more on it, without a word."""
         channel, self.reading = self.reading, None
-        if channel is not None and self.is_usable():
+        if channel is not None and is_usable(self.connection):
             close(channel)
         self.open_reading()
 
@@ -230,8 +185,8 @@ class Stream:
         if key is not None and key not in (self.macs.keys[0], *self.named):
             self.named.append(key)
             text = text_of(self.macs.key_mark())
-            self.unwritten.append(self.macs.signed_by(key, text))
-            self.write(text)
+            self.writer.write_by(key, text)
+            self.writer.write(text)
 
     def text_of(self, delivered: StreamDelivery) -> str:
         """Returns what a node wrote. A message that no node wrote is a MessageFault."""
@@ -239,7 +194,7 @@ class Stream:
 
     def acknowledge(self, tag: int) -> None:
         self.unacknowledged += 1
-        if self.unacknowledged >= TOGETHER and self.reading is not None and self.is_usable():
+        if self.unacknowledged >= TOGETHER and self.reading is not None and is_usable(self.connection):
             self.unacknowledged = 0
             self.reading.basic_ack(tag, multiple=True)
 
@@ -288,7 +243,7 @@ class Stream:
             keep_short_bodies(channel, topology.MAX_MESSAGE + 1)
             channel.basic_qos(prefetch_count=PREFETCH)
             channel.basic_consume(self.name, delivered, arguments={"x-stream-offset": LAST})
-            self.write(text)
+            self.writer.write(text)
 
         def delivered(channel: Channel, delivery: Delivery, properties: Properties, body: bytes) -> None:
             channel.basic_ack(delivery.delivery_tag)
@@ -302,7 +257,7 @@ class Stream:
                 self.reading = None
                 self.on_more()
 
-        if self.is_usable():
+        if is_usable(self.connection):
             self.connection.channel(on_open_callback=opened)
 
     # Ends of channels
@@ -310,8 +265,8 @@ class Stream:
     def closed(self, channel: Channel, reason: Exception) -> None:
         """Opens a channel again that the broker closed."""
         connection = self.connection
-        if channel is self.writing:
-            self.writing, self.is_open = None, False
+        if channel is self.writer.channel:
+            self.writer.forget()
         elif channel is self.reading:
             self.reading = None
             self.unread.clear()
@@ -319,17 +274,11 @@ class Stream:
             return
 
         def again() -> None:
-            if connection is self.connection and self.writing is None:
-                self.open_writing()
+            if connection is self.connection and self.writer.channel is None:
+                self.writer.open_channel()
             if connection is self.connection and self.reading is None:
                 self.open_reading()
 
-        if self.is_usable():
+        if is_usable(self.connection):
             self.on_fault(str(reason)[:REASON])
             self.loop.call_later(AGAIN_SECONDS, again)
-
-
-def close(channel: Channel) -> None:
-    """Closes a channel, unless the broker did."""
-    with contextlib.suppress(pika.exceptions.AMQPError):
-        channel.close()

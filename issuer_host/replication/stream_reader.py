@@ -4,15 +4,16 @@ from typing import Any, Protocol
 
 from issuer_host.host.event_loop import Loop
 from issuer_host.replication.journal_files import JournalFiles
+from issuer_host.replication.messages import is_mark
+from issuer_host.replication.node_stops import StepGuard
 from issuer_host.replication.own_messages import OwnMessages
 from issuer_host.replication.positions import BEFORE, first_text
 from issuer_host.replication.record_origins import Origin, RefusedRecord, refusal_of
 from issuer_host.replication.rule_events import State
 from issuer_host.replication.rule_turns import RuleTurns
-from issuer_host.replication.step_guard import StepGuard
 from issuer_host.replication.stream import Stream, Taken
 
-# What didn't come back is written again after so long without any message, and reading begins anew after so long; after
+# What didn't come back is written again after so long, and reading begins anew after so long without any message; after
 # longer if nothing is waited for.
 QUIET_SECONDS, DEAF_SECONDS, IDLE_SECONDS = 3.0, 4.0, 30.0
 # So many messages are read before the loop looks after other partitions.
@@ -48,7 +49,8 @@ class StreamReader:
         self.watcher = watcher
         # Whether there is something to read, and the loop comes to it.
         self.is_called = False
-        # When a message was read or written last, and when one was read last, or reading began.
+        # When something was written last that comes back, or came back; and when a message was read last, or reading
+        # began. (What others write says nothing of what this machine wrote.)
         self.heard = self.read_at = 0.0
         # What was written and didn't come back.
         self.own = OwnMessages()
@@ -58,7 +60,7 @@ class StreamReader:
         self.heard = self.read_at = time.monotonic()
         self.stream.open(connection)
         if self.stream.place.offset == BEFORE:
-            self.stream.write(first_text(self.stream.place.digest))
+            self.stream.writer.write(first_text(self.stream.place.digest))
 
     def call(self) -> None:
         """Has the loop come to what was delivered."""
@@ -87,7 +89,8 @@ class StreamReader:
         if taken.text is None:
             self.watcher.passed_over(taken.offset, taken.why)
         else:
-            self.heard = self.read_at
+            if self.rule.state is State.SERVING and not is_mark(taken.text):
+                self.heard = self.read_at
             self.read(taken.offset, taken.text)
 
     def read(self, offset: int, text: str) -> None:
@@ -102,18 +105,19 @@ class StreamReader:
 
     def write(self, text: str) -> None:
         """Writes a message, which comes back in a while."""
+        self.wrote()
         self.own.wrote(text)
-        self.stream.write(text)
+        self.stream.writer.write(text)
 
     def wrote(self) -> None:
-        """Records were written: they come back in a while."""
+        """Something was written: it comes back in a while."""
         self.heard = time.monotonic()
 
     def write_again(self) -> None:
         """Writes what didn't come back on a new channel."""
         self.wrote()
         self.own.forget()
-        self.stream.write_anew()
+        self.stream.writer.begin_anew()
         self.rule.write_again()
 
     def look(self, now: float) -> None:

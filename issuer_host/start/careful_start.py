@@ -48,7 +48,7 @@ from typing import NamedTuple, Optional
 from issuer_host.facts.commands import COMMANDS, CONFIG, JOURNAL, OVER_JOURNALS, Option, value_of
 from issuer_host.facts.faults import lasts
 from issuer_host.facts.memory import keep_from_others
-from issuer_host.facts.paths import PROGRAM, RECORD
+from issuer_host.facts.paths import HOST, PROGRAM, ProgramName, RECORD
 from issuer_host.facts.proof import is_proved, sum_of
 from issuer_host.facts.refusal import Refusal, tell
 from issuer_host.facts.statuses import Status
@@ -143,14 +143,14 @@ def program_of(start: CarefulStart, why_changed: Callable[[], Optional[str]]) ->
     return None
 
 
-def is_proved_soon() -> bool:
-    """Whether the program is the one that the record of its proof names, now or after an upgrade's last step."""
+def is_proved_soon(name: ProgramName = HOST) -> bool:
+    """Whether a program is the one that the record of its proof names, now or after an upgrade's last step."""
     for look in range(PROOF_LOOKS):
         if look:
             time.sleep(PROOF_SECONDS)
-        if is_proved():
+        if is_proved(name.path, name=name):
             return True
-        if not os.path.exists(PROGRAM) and not os.path.exists(RECORD):
+        if not os.path.exists(name.path) and not os.path.exists(RECORD):
             return False
     return False
 

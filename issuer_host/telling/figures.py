@@ -9,6 +9,7 @@ from issuer_host.facts.answers import DECISIONS, REFUSALS, REFUSED, kind_of
 from issuer_host.facts.journals import journals_of
 from issuer_host.facts.proof import ProgramIdentity
 from issuer_host.facts.refusal import tell
+from issuer_host.facts.statuses import KILLED
 from issuer_host.telling.figures_server import FiguresServer
 
 SECONDS = (0.002, 0.005, 0.01, 0.02, 0.05, 0.1, 0.2, 0.5, 1, 2, 5, 10, 30)
@@ -23,6 +24,7 @@ KINDS = {
     "declines": ("Counter", "issuer_account_declines", "Requests that came with an account's decline"),
     "restoring": ("Gauge", "issuer_cards_restoring", "Cards that wait for the status of before an account's decline"),
     "losses": ("Counter", "issuer_connection_losses", "Losses of the broker's connection"),
+    "connected": ("Gauge", "issuer_broker_connected", "1 if there is a connection to the broker"),
     "bodies": ("Counter", "issuer_bodies_refused", "Messages that are no request line, sent to the dead letters"),
     "returned": ("Counter", "issuer_answers_returned", "Answers whose reply queue was gone"),
     "dropped": ("Counter", "issuer_answers_dropped", "Answers that their reply queue refused"),
@@ -36,6 +38,11 @@ KINDS_OF_NODE = {
     "read": ("Gauge", "issuer_stream_read_offset", "The last message of the stream that was read"),
     "passed_over": ("Counter", "issuer_stream_passed_over", "Messages of the stream that no node wrote"),
     "uncounted": ("Gauge", "issuer_uncounted_seconds", "For how long records of the host wait and none counts"),
+    "following": (
+        "Gauge",
+        "issuer_partition_following",
+        "1 if this machine serves the partition, or waits in its line",
+    ),
     "serving": ("Gauge", "issuer_partition_serving", "1 if this machine's barrier counts"),
     "stopped": ("Gauge", "issuer_partition_stopped", "1 if the partition is stopped here until somebody acts"),
 }
@@ -124,6 +131,8 @@ class Figures:
             self.answers_by.labels(self.partition, kind, "").inc(0)
         for refusal in REFUSALS:
             self.answers_by.labels(self.partition, REFUSED, str(int(refusal))).inc(0)
+        for status in KILLED:
+            self.ends_by.labels(self.partition, str(status)).inc(0)
         for attribute, made in kinds.made.items():
             self.figures[attribute] = made.labels(self.partition)
 

@@ -10,6 +10,7 @@ FOR_ALL = 0o644
 FIGURES = {
     "issuer_follow_unwritten_bytes": "Bytes of a journal that the standby's feed doesn't have yet",
     "issuer_follow_seconds": "When the follower last looked, in seconds of Unix",
+    "issuer_backup_seconds": "When the last copy of the journals was made that loads, in seconds of Unix",
     "issuer_cards_halted": "Cards whose scripts are halted",
     "issuer_cards_seconds": "When the cards were looked at, in seconds of Unix",
 }

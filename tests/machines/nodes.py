@@ -20,19 +20,19 @@ from issuer_host.broker.wire import decode_no_headers
 from issuer_host.facts.answers import RECORDED
 from issuer_host.facts.journals import StatusSet, journal_path, record_of, records_of
 from issuer_host.facts.partitions import partition_configuration, partition_journal
-from issuer_host.facts.paths import HOME
+from issuer_host.facts.paths import HOME, RULE
 from issuer_host.orders.intent_log import Begun, WorkFile
 from issuer_host.replication.message_mac import MessageMacs
-from issuer_host.replication.messages import Barrier, LOGS, Message, MessageFault, Record
+from issuer_host.replication.messages import Barrier, LOGS, MessageFault, Record
 from issuer_host.replication.notes import read_notes, work_of
-from issuer_host.replication.rule import Count
+from machines.message_texts import Message, message_of
+from machines.rule_model import Count
+from machines.wrong_rules import wrong_program
 from trials.bridges.cards import distinct_lines, whole_configuration, with_account_row
 from trials.bridges.private_broker import PrivateBroker, free_port
 
 NODE = os.path.join(HOME, "deploy/node")
 QUEUES = os.path.join(HOME, "deploy/queues")
-# A node with another body of the rule.
-WRONG = os.path.join(HOME, "tests/stand_ins/wrong_node")
 STATE = re.compile(r"^node: partition (\d+): (away|reading|waiting|beginning|serving|stopped)", re.MULTILINE)
 CARDS, SHARDS = 8, 2
 SECONDS = 60.0
@@ -44,9 +44,6 @@ KEY = bytes(range(32))
 
 class Machine:
     """One machine: its NODE.json, its journals, and its node."""
-
-    # The program that decides by the rule; none if it is empty.
-    rule = ""
 
     def __init__(
         self, room: str, name: str, url_file: str, program: str, partitions: Sequence[int], callers: int = 1
@@ -69,7 +66,6 @@ class Machine:
             "broker_file": url_file,
             "cluster_key_file": self.key_file,
             "program": program,
-            "rule": self.rule,
             "figures": 0,
         }
         self.write({**told, "partitions": [self.partition(number) for number in partitions]})
@@ -128,8 +124,15 @@ class Machine:
             raise RuntimeError(done.stderr)
 
     def start(self, wrong: str = "") -> None:
-        """Starts the node; with another body of the rule, if one is named."""
-        command = [WRONG, wrong, self.file] if wrong else [*self.before, NODE, self.file]
+        """Starts the node; with a program that decides by a wrong rule, if one is named.
+
+        One that still runs is killed before.
+        """
+        if self.runs():
+            self.kill()
+        if wrong:
+            self.write({**self.told(), "rule": wrong_program(self.room, wrong)})
+        command = [*self.before, NODE, self.file]
         with open(self.log, "ab") as log:
             self.begun = log.tell()
             self.process = subprocess.Popen(command, stdin=subprocess.DEVNULL, stderr=log, start_new_session=True)
@@ -151,6 +154,12 @@ class Machine:
             self.signal_all(signal.SIGKILL)
             self.process.wait()
 
+    def stop(self) -> None:
+        """Ends the node in order, as its unit is stopped: what its hosts recorded is sealed."""
+        self.signal(signal.SIGTERM)
+        self.ends()
+        self.kill()
+
     def ends(self, seconds: float = SECONDS) -> Optional[int]:
         """Returns the status with which the node ends; None if it doesn't in time."""
         assert self.process is not None
@@ -158,13 +167,28 @@ class Machine:
             return self.process.wait(seconds)
         return None
 
+    def stops(self, seconds: float = SECONDS) -> bool:
+        """Whether the node stops all its partitions in time. One that stays, since it has figures, is ended then."""
+        is_stopped = wait_until(self.has_stopped, seconds)
+        self.kill()
+        return is_stopped
+
+    def has_stopped(self) -> bool:
+        told = dict(STATE.findall(self.said()[self.begun :]))
+        return all(told.get(str(number)) == "stopped" for number in self.told_numbers())
+
+    def told_numbers(self) -> list[int]:
+        """Returns the numbers of the partitions of NODE.json."""
+        return [one["number"] for one in self.told()["partitions"]]
+
     def hosts(self) -> list[int]:
         """Returns the process ids of what the node runs over journals."""
         return [child for child in self.children() if b"--journal" in words_of_process(child)]
 
     def rules(self) -> list[int]:
         """Returns the process ids of the programs that decide for the node's partitions."""
-        return [child for child in self.children() if self.rule.encode() in words_of_process(child)]
+        paths = {RULE.path.encode(), RULE.gate_path.encode()}
+        return [child for child in self.children() if paths & set(words_of_process(child))]
 
     def children(self) -> list[int]:
         assert self.process is not None
@@ -332,12 +356,12 @@ class Room:
         found.start()
         return found
 
-    def start_alone(self, machine: Machine, number: int) -> Optional[int]:
-        """Starts a machine's node with one partition. Returns the status with which it ends."""
+    def start_alone(self, machine: Machine, number: int) -> bool:
+        """Starts a machine's node with one partition. Returns whether it stops that."""
         told = machine.told()
         machine.write({**told, "partitions": [one for one in told["partitions"] if one["number"] == number]})
         machine.start()
-        return machine.ends(30)
+        return machine.stops(30)
 
     def give(self, machine: Machine, cards: int) -> None:
         """Starts a machine's node again with a configuration of so many cards."""
@@ -475,7 +499,7 @@ class Room:
         found = []
         for offset, (body, has_headers) in enumerate(self.bodies(number)):
             with contextlib.suppress(MessageFault):
-                found.append((offset, self.macs(number).message_of(body, has_headers)))
+                found.append((offset, message_of(self.macs(number), body, has_headers)))
         return found
 
     def messages(self, number: int) -> list[Message]:

@@ -10,12 +10,13 @@ import functools
 from collections.abc import Callable, Hashable, Iterator
 from typing import NamedTuple, Optional, Protocol
 
-from issuer_host.replication.bridge_rule import BridgeRule
 from issuer_host.replication.message_mac import MessageMacs
-from issuer_host.replication.messages import Barrier, LOGS, Message, MessageFault, Record, Records, parse, text_of
-from issuer_host.replication.rule import Answer, Count
+from issuer_host.replication.messages import Barrier, LOGS, MessageFault, Record
 from issuer_host.replication.rule_events import Beginning, PartitionRule
 from issuer_host.replication.rule_turns import RuleTurns
+from machines.bridge_model import BridgeModel
+from machines.message_texts import Message, Records, parse, text_of
+from machines.rule_model import Answer, Count
 
 COUNTERS = ("7", "8", "9")
 KEY = bytes(range(32))
@@ -35,8 +36,8 @@ class Opener(Protocol):
     def signed(self, text: str) -> bytes:
         """Returns the body of a message."""
 
-    def message_of(self, body: bytes, has_headers: bool = False) -> Message:
-        """Returns what a node wrote. A message that counts nowhere is a MessageFault."""
+    def read(self, body: bytes, has_headers: bool) -> str:
+        """Returns the text of a message that a node wrote. Any other is a MessageFault."""
 
 
 # A stranger writes bodies of these kinds.
@@ -183,7 +184,7 @@ class Node:
     def ask(self, counter: str) -> None:
         """Puts a request of a card's counter to the host: it has one record for it, whoever asks."""
         record = self.find(counter) or self.decide(counter)
-        self.answer(Answer(counter, record.text, record.at))
+        self.answer(Answer(counter, record.text, (record.shard, record.place)))
 
     def answer(self, answer: Answer) -> None:
         self.turns.recorded((functools.partial(self.reply, answer), answer.place))
@@ -230,7 +231,7 @@ class World:
 
     def __init__(
         self,
-        new_rule: "Callable[[Beginning], WorldRule]" = BridgeRule,
+        new_rule: "Callable[[Beginning], WorldRule]" = BridgeModel,
         machines: int = 2,
         shards: int = 1,
         macs: Opener = MessageMacs(STREAM, [KEY]),
@@ -265,7 +266,7 @@ class World:
     def opened(self, body: Body) -> Optional[Message]:
         """Returns what a message says, or None if it counts nowhere."""
         try:
-            return self.macs.message_of(body.content, body.has_headers)
+            return parse(self.macs.read(body.content, body.has_headers))
         except MessageFault:
             return None
 

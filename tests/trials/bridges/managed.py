@@ -50,6 +50,8 @@ class ManagedBridge:
         self.process: "Optional[subprocess.Popen[bytes]]" = None
         self.ends: collections.Counter[Union[int, str]] = collections.Counter()
         self.heard = 0.0
+        # Whether it said so.
+        self.is_ready = False
         self.died = 0.0
         self.path = os.path.join(room, f"notify-{partition}-{number}")
         self.socket = socket.socket(socket.AF_UNIX, socket.SOCK_DGRAM)
@@ -70,13 +72,15 @@ class ManagedBridge:
             )
         # (the watchdog begins with the first notice)
         self.heard = time.monotonic() + START_SECONDS - WATCHDOG_SECONDS
+        self.is_ready = False
         self.died = 0.0
 
     def listen(self, now: float) -> None:
         """Takes what the bridge told its service manager."""
         try:
-            while self.socket.recv(4096):
+            while said := self.socket.recv(4096):
                 self.heard = now
+                self.is_ready = self.is_ready or b"READY=1" in said
         except BlockingIOError:
             pass
 

@@ -93,7 +93,7 @@ class Orders:
         end = time.monotonic() + self.seconds
         while time.monotonic() < end:
             try:
-                reply = client.reply_of(client.takers_of(self.farm.sockets(partition)), number, line)
+                reply = client.SocketTaker(self.farm.sockets(partition)).reply_of(number, line)
             except Refusal:
                 reply = ""
             word, _, answer = reply.partition(" ")

@@ -5,6 +5,7 @@ stops the partition, the person gives the machine copies of another one's journa
 docs/OPERATIONS.md, "Files of a partition that aren't right". Meanwhile the other machines go on.
 """
 import contextlib
+import json
 import os
 import random
 import shutil
@@ -81,13 +82,29 @@ class Accident:
                 return line
         return ""
 
+    def counted(self) -> int:
+        """Returns how many records count at the machine's position; -1 if there is none to read."""
+        # (an accident may have put a named pipe there)
+        if not os.path.isfile(self.journal + POSITION):
+            return -1
+        try:
+            with open(self.journal + POSITION, encoding="utf-8") as text:
+                counts: list[int] = json.load(text)["counts"]
+                return sum(counts)
+        except (OSError, ValueError, KeyError, TypeError):
+            return -1
+
     def is_stopped(self) -> bool:
-        """Waits until the node has stopped the partition, or it does its part for a while. Returns whether it has."""
-        until, done = time.monotonic() + SETTLED_SECONDS, 0.0
+        """Waits until the node has stopped the partition, or it does its part for a while. Returns whether it has.
+
+        A node may find that files aren't right when it takes its next record, and no earlier.
+        """
+        until, done, before = time.monotonic() + SETTLED_SECONDS, 0.0, self.counted()
         while time.monotonic() < until and done < WATCHED_SECONDS:
             if self.stop_line():
                 return True
-            is_done = state_of(self.node.texts()[self.begun :], self.number) in (SERVING, WAITING)
+            is_there = state_of(self.node.texts()[self.begun :], self.number) in (SERVING, WAITING)
+            is_done = is_there and self.counted() > before
             done = done + LOOK_SECONDS if is_done else 0.0
             time.sleep(LOOK_SECONDS)
         if done < WATCHED_SECONDS and not self.stop_line():

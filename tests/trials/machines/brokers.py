@@ -6,6 +6,7 @@ import json
 import os
 import secrets
 import shlex
+import shutil
 import signal
 import socket
 import subprocess
@@ -90,6 +91,10 @@ class BrokerNode:
         return os.path.join(self.folder, "pid")
 
     @property
+    def watch_log(self) -> str:
+        return os.path.join(self.folder, "rejoin.log")
+
+    @property
     def environment(self) -> dict[str, str]:
         address = "{" + self.machine.address.replace(".", ",") + "}"
         return dict(os.environ) | {
@@ -136,23 +141,41 @@ class BrokerNode:
             )
         write(self.pid_file, str(self.process.pid))
 
-    def watch(self) -> None:
+    def watch(self, *words: str) -> None:
         """Runs deploy/rejoin beside the node, if it doesn't run yet."""
         if self.watching is not None and self.watching.poll() is None:
             return
-        control = os.path.join(self.folder, "control")
-        own = {name: value for name, value in self.environment.items() if os.environ.get(name) != value}
-        words = [f"{name}={value}" for name, value in own.items()]
-        command = shlex.join(["env", *words, CONTROL, "--longnames", "--node", name_of(self.machine)])
-        write(control, f'#!/bin/sh\nexec {command} "$@"\n', 0o700)
-        with open(os.path.join(self.folder, "rejoin.log"), "ab") as log:
+        words = (*words, "--kill", self.write_kill()) if "--kill" not in words else words
+        with open(self.watch_log, "ab") as log:
             self.watching = subprocess.Popen(
-                self.network.command(self.machine, [REJOIN, "--control", control]),
+                self.network.command(self.machine, [REJOIN, "--control", self.write_control(), *words]),
                 stdin=subprocess.DEVNULL,
                 stdout=log,
                 stderr=log,
                 start_new_session=True,
             )
+
+    def write_control(self) -> str:
+        """Writes what stands for rabbitmqctl on this machine, and returns its path. It may be given another --node."""
+        own = {name: value for name, value in self.environment.items() if os.environ.get(name) != value}
+        words = [f"{name}={value}" for name, value in own.items()]
+        return self.write_script("control", shlex.join(["env", *words, CONTROL, "--longnames"]) + ' "$@"')
+
+    def write_kill(self) -> str:
+        """Writes what stands for the service manager: it kills this node, and starts it again."""
+        cluster = os.path.join(HOME, "deploy", "cluster")
+        start = shlex.join([cluster, "start", os.path.dirname(os.path.dirname(self.folder)), self.machine.name])
+        return self.write_script("kill", f"kill -KILL -$(cat {self.pid_file}); sleep 1; exec {start}")
+
+    def write_script(self, name: str, command: str) -> str:
+        path = os.path.join(self.folder, name)
+        write(f"{path}.new", f"#!/bin/sh\n{command}\n", 0o700)
+        os.replace(f"{path}.new", path)
+        return path
+
+    def wipe(self) -> None:
+        """Deletes all that the node keeps, as if its disk were gone."""
+        shutil.rmtree(os.path.join(self.folder, "data"))
 
     def kill(self) -> None:
         """Ends the node as a crash does. Erlang's port mapper stays."""

@@ -1,7 +1,7 @@
 """Kills, cuts and stops machines while requests are answered, and holds answers, streams and journals together.
 
 usage: deploy/chaos --machines [--short] [--requests N] [--seed S] [--tick SECONDS] [--events NAME,..]
-                               [--program PATH] [--rule PATH] [--keep FOLDER] [--loud]
+                               [--program PATH] [--keep FOLDER] [--loud]
 
 It makes three machines as namespaces of the network, with a node of a RabbitMQ cluster and a node of eight partitions
 on each, and asks N requests (20,000; in the short form 1,000). About a tenth are asked again, a hundredth again with
@@ -9,8 +9,12 @@ another amount, and a tenth are declined by their accounts; orders are given mea
 to a machine that serves a partition:
 
 - it loses its power without a word, or is killed with all its connections; so do two, one after another, and all three
-- its disk is lost, and it begins from copies of another's journals
+- its disk is lost, and it begins from copies of another's journals; or its broker's data too, and `deploy/replace`
+  replaces it, which is killed in the middle and run again
 - it is cut off: its packets are lost, its interface is down, it hears one of the two others, its link blinks
+- all that it sends is lost, or all that is sent to it; its link loses a fifth of all packets, or is slow
+- its broker hangs, and `deploy/rejoin` kills it; its broker has no disk left by its limit, for a while
+- all brokers are started again, one after another, once `deploy/queues --await-whole` says that all copies answer
 - all that runs on it stands still for 30 s, or its node alone
 - its node, a host, its broker, or the broker that leads a stream is killed; its node is ended
 - the disk of its journals is full; its clock is set
@@ -22,8 +26,8 @@ to a machine that serves a partition:
 
 Where a node stops a partition over its files, they are put right as OPERATIONS says: by copies of another's journals.
 
---events has these happen alone, in their order: `events.py` has their names. With --rule a program decides by the rule,
-in place of the nodes' own processes. Where nobody is answered for a minute and a half, it says where the run stands.
+--events has these happen alone, in their order: `events.py` has their names. Where nobody is answered for a minute and
+a half, it says where the run stands.
 
 At the end:
 
@@ -33,6 +37,7 @@ At the end:
   again, all of them come to what counts
 - orders and declines are as `deploy/chaos` has them
 - no node ended with a status after which it isn't started again
+- it is three of three again, without a person: brokers, copies of queues and streams, and machines in each line
 
 It needs root, iproute2, rabbitmq-server, python3-pika, python3-cryptography and the built program. What can't be tried
 here is left out by name. The last line is `N passed, M failed`.
@@ -72,6 +77,8 @@ TICK_SECONDS = 8
 RATE, ROUND_SECONDS = 60.0, 15.0
 CHANGED = 0.01
 ANSWER_SECONDS = 900.0
+# After the last event it is three of three within so long.
+WHOLE_SECONDS = 300.0
 SHORT_EVENTS = ("power", "deposed", "forged", "cut", "node stopped", "leader")
 TAKEN = "refused 11"
 # What a node writes of its partitions at SIGTERM.
@@ -87,8 +94,6 @@ class Options(NamedTuple):
     tick: int
     events: list[str]
     program: Optional[str]
-    # A program that decides by the rule in the nodes' place; none if it is empty.
-    rule: str
     keep: Optional[str]
     loud: bool
 
@@ -117,7 +122,6 @@ def options_of(words: Sequence[str]) -> Options:
     parser.add_argument("--tick", type=int, default=TICK_SECONDS)
     parser.add_argument("--events", type=lambda names: names.split(","), default=[])
     parser.add_argument("--program", type=lambda path: os.path.abspath(path))
-    parser.add_argument("--rule", default="", type=lambda path: path and os.path.abspath(path))
     parser.add_argument("--keep")
     parser.add_argument("--loud", action="store_true")
     options = Options(**vars(parser.parse_args(words)))
@@ -231,6 +235,17 @@ def check_ends(tally: Tally, machines: "Machines") -> None:
     tally.check(not machines.faults, f"these didn't happen: {machines.faults}")
 
 
+def check_redundancy(tally: Tally, machines: "Machines") -> None:
+    """All that has copies has three of them again, by what the first machine's broker sees."""
+    from trials.machines.brokers import comes
+
+    machines.network.heal()
+    tally.check(
+        comes(lambda: not machines.lost(), WHOLE_SECONDS),
+        f"in {WHOLE_SECONDS} s it isn't three of three: {machines.lost()}",
+    )
+
+
 def report(machines: "Machines", asked: Asked, seconds: float) -> None:
     """Prints what happened, and how long a partition was silent."""
     ends = ", ".join(f"{count} with {status}" for status, count in sorted(machines.ends().items(), key=str))
@@ -260,6 +275,7 @@ def play(options: Options, machines: "Machines", tally: Tally) -> None:
     asked = ask_in_rounds(machines, rounds, dice)
     orders.end()
     seconds = time.monotonic() - began
+    check_redundancy(tally, machines)
     machines.kill_nodes()
     check_prefixes(tally, machines)
     machines.start_nodes()
@@ -282,7 +298,6 @@ def run(options: Options, tally: Tally) -> None:
     with tempfile.TemporaryDirectory(prefix="issuer-machines-") as room:
         make_configurations(room, options.program, PARTITIONS)
         machines = Machines(room, options.program, cluster_tick=options.tick)
-        machines.rule = options.rule
         machines.is_loud = options.loud
         machines.are_watched = True
         try:

@@ -1,4 +1,5 @@
 """What happens to the machines in a round of `deploy/chaos --machines`."""
+import os
 import random
 import subprocess
 import time
@@ -9,17 +10,28 @@ from typing import NamedTuple
 import pika
 
 from issuer_host.broker import topology
+from issuer_host.facts.paths import HOME
 from issuer_host.replication.message_mac import MessageMacs
-from issuer_host.replication.messages import Barrier, Records
+from issuer_host.replication.messages import Barrier
+from machines.message_texts import Records
 from trials.machines.accidents import ACCIDENTS
-from trials.machines.brokers import NODE
+from trials.machines.brokers import NODE, wait_for
 from trials.machines.history import Reader, last_barrier, next_record
 from trials.machines.machines import Machines
 from trials.machines.network import Machine
+from trials.machines.replacing import MachineReplacement
 from trials.machines.strangers import write_forgeries
+from trials.machines.wire import WireSettings
 
 AWAY_SECONDS = (2.0, 8.0)
 STOPPED_SECONDS = 30.0
+# What a bad link loses, and how late it is, for how long.
+LOST, LATE_SECONDS, WORSE_SECONDS = 0.2, 0.3, 25.0
+# What deploy/rejoin reports of a broker that it kills, and how long that takes; and how long all copies may take.
+HUNG, HUNG_SECONDS, WHOLE_SECONDS = "it is killed", 300.0, 600
+# Limits of a broker's disk, of which it never has the first, and how long it lacks that.
+NO_DISK, SOME_DISK, ALARM_SECONDS = "9999GB", "50MB", 12.0
+QUEUES = os.path.join(HOME, "deploy", "queues")
 BLINKS, BLINK_SECONDS = 4, (0.2, 1.5)
 CLOCKS = (-90_000, -3_600, 3_600, 90_000)
 # A status that a deposed bridge would record: no row of the table names it.
@@ -62,6 +74,17 @@ def replace_machine(machines: Machines, dice: random.Random) -> None:
     machines.switch_on(machine)
 
 
+def wipe_machine(machines: Machines, dice: random.Random) -> None:
+    """A machine loses all its disks, its broker's too, and is replaced by `deploy/replace`."""
+    machine = machines.pick_serving(dice)
+    living = dice.choice([one for one in machines.network.machines if one != machine])
+    machines.switch_off(machine)
+    machines.wipe(machine)
+    away(dice)
+    machines.network.hear(machine)
+    MachineReplacement(machines, machine, living).play(dice)
+
+
 def kill_two(machines: Machines, dice: random.Random) -> None:
     """Two machines go one after another, and come back so."""
     first, second = dice.sample(machines.network.machines, 2)
@@ -89,6 +112,71 @@ def cut_machine(machines: Machines, dice: random.Random) -> None:
     machines.network.silence(machine)
     time.sleep(2 * dice.uniform(*AWAY_SECONDS))
     machines.network.hear(machine)
+
+
+def deafen_machine(machines: Machines, dice: random.Random) -> None:
+    """All that is sent to a machine is lost, and what it sends is heard."""
+    worsen(machines, dice, WireSettings(0.0, 1.0, 0.0), 2 * dice.uniform(*AWAY_SECONDS))
+
+
+def mute_machine(machines: Machines, dice: random.Random) -> None:
+    """All that a machine sends is lost, and it hears the others."""
+    worsen(machines, dice, WireSettings(1.0, 0.0, 0.0), 2 * dice.uniform(*AWAY_SECONDS))
+
+
+def lose_packets(machines: Machines, dice: random.Random) -> None:
+    """A fifth of a machine's packets is lost, both ways."""
+    worsen(machines, dice, WireSettings(LOST, LOST, 0.0), WORSE_SECONDS)
+
+
+def slow_link(machines: Machines, dice: random.Random) -> None:
+    """A machine's packets are late, both ways."""
+    worsen(machines, dice, WireSettings(0.0, 0.0, LATE_SECONDS), WORSE_SECONDS)
+
+
+def worsen(machines: Machines, dice: random.Random, settings: WireSettings, seconds: float) -> None:
+    with machines.network.worse(machines.pick_serving(dice), settings):
+        time.sleep(seconds)
+
+
+def hang_broker(machines: Machines, dice: random.Random) -> None:
+    """A broker's application stops, as where a start hangs, and its node lives: deploy/rejoin kills it."""
+    broker = machines.broker_of(machines.pick_serving(dice))
+    broker.control("stop_app")
+    wait_for(
+        lambda: HUNG in text_of(broker.watch_log), HUNG_SECONDS, f"rejoin kills a broker that hangs, {broker.watch_log}"
+    )
+    broker.wait()
+
+
+def roll_brokers(machines: Machines, dice: random.Random) -> None:
+    """All brokers are started again, each once all copies answer, as docs/MACHINES.md upgrades them."""
+    for machine in dice.sample(machines.network.machines, len(machines.network.machines)):
+        machines.restart_broker(machine, dice.uniform(0.0, 2.0))
+        machines.broker_of(machine).wait()
+        await_whole(machines, machine)
+
+
+def await_whole(machines: Machines, machine: Machine) -> None:
+    """Waits by deploy/queues until all copies answer."""
+    words = [QUEUES, "--await-whole", str(WHOLE_SECONDS), "--partitions", str(machines.partitions)]
+    words += ["--control", machines.broker_of(machine).write_control()]
+    done = subprocess.run(machines.network.command(machine, words), capture_output=True, text=True, check=False)
+    if done.returncode:
+        raise RuntimeError(f"after {machine.name} was started again: {done.stdout}{done.stderr}")
+
+
+def text_of(path: str) -> str:
+    with open(path, encoding="utf-8") as text:
+        return text.read()
+
+
+def fill_broker(machines: Machines, dice: random.Random) -> None:
+    """A broker has no disk left by its limit: it holds all publishers up for a while."""
+    broker = machines.broker_of(machines.pick_serving(dice))
+    broker.control("set_disk_free_limit", NO_DISK)
+    time.sleep(ALARM_SECONDS)
+    broker.control("set_disk_free_limit", SOME_DISK)
 
 
 def unplug_machine(machines: Machines, dice: random.Random) -> None:
@@ -231,7 +319,15 @@ EVENTS: Mapping[str, Event] = {
     "two": Event(2, kill_two),
     "all": Event(1, kill_all),
     "replaced": Event(2, replace_machine),
+    "wiped": Event(2, wipe_machine),
     "cut": Event(4, cut_machine),
+    "deaf": Event(2, deafen_machine),
+    "mute": Event(2, mute_machine),
+    "lossy": Event(2, lose_packets),
+    "slow": Event(2, slow_link),
+    "hung": Event(2, hang_broker),
+    "rolling": Event(1, roll_brokers),
+    "alarm": Event(2, fill_broker),
     "unplugged": Event(2, unplug_machine),
     "parted": Event(3, part_machines),
     "blink": Event(2, blink_link),

@@ -12,9 +12,10 @@ from issuer_host.broker import topology
 from issuer_host.broker.wire import decode_no_headers
 from issuer_host.facts.journals import PAN_DIGITS, card_of_record, journal_path, records_of
 from issuer_host.replication.message_mac import MessageMacs
-from issuer_host.replication.messages import Barrier, Mark, Message, MessageFault, NOTES, Record, text_of
+from issuer_host.replication.messages import Barrier, Mark, MessageFault, NOTES, Record
 from issuer_host.replication.notes import read_notes
-from issuer_host.replication.rule import Count
+from machines.message_texts import Message, message_of, text_of
+from machines.rule_model import Count
 from trials.bridges.farm import SHARDS
 from trials.bridges.tally import Tally
 from trials.machines.brokers import NODE, comes
@@ -58,7 +59,7 @@ class Reader:
         def take(channel: Any, method: Any, properties: Any, body: bytes) -> None:
             channel.basic_ack(method.delivery_tag)
             with contextlib.suppress(MessageFault):
-                found.append(self.macs.message_of(body, properties.has_headers))
+                found.append(message_of(self.macs, body, properties.has_headers))
 
         reading: Any = self.connection.channel()
         reading.basic_qos(prefetch_count=PREFETCH)

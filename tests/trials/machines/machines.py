@@ -8,13 +8,15 @@ import signal
 import subprocess
 import threading
 import time
-from collections.abc import Sequence
 from typing import Optional, Union
 
 import pika
 
 from issuer_host.broker import topology
+from issuer_host.broker.redundancy import of_lines, redundancy_of, what_is_lost
+from issuer_host.broker.settings import Control
 from issuer_host.facts.partitions import partition_configuration
+from issuer_host.facts.refusal import Refusal
 from trials.machines.brokers import BrokerNode, NODE, OPERATOR, PUBLISHER, TICK_SECONDS, wait_for
 from trials.machines.clock import Clock, ClockFault, build
 from trials.machines.cluster import Cluster
@@ -39,7 +41,6 @@ class Machines:
         room: str,
         program: Optional[str],
         partitions: int = PARTITIONS,
-        node: Sequence[str] = (NODE_COMMAND,),
         cluster: Optional[Cluster] = None,
         cluster_tick: int = TICK_SECONDS,
     ) -> None:
@@ -48,7 +49,7 @@ class Machines:
         self.is_guest = cluster is not None
         self.program = program
         self.partitions = partitions
-        # A program that decides by the rule in the nodes' place; none if it is empty.
+        # Another program that decides than the nodes' own, as a wrong one; none if it is empty.
         self.rule = ""
         self.configurations = os.path.join(room, "configurations")
         self.is_loud = False
@@ -63,9 +64,7 @@ class Machines:
         self.cluster = cluster or Cluster(os.path.join(room, "cluster"), cluster_tick)
         self.network = self.cluster.network
         self.brokers = self.cluster.brokers
-        self.nodes = [
-            ManagedNode(self.network, machine, self.folder(machine), node) for machine in self.network.machines
-        ]
+        self.nodes = [ManagedNode(self.network, machine, self.folder(machine)) for machine in self.network.machines]
         self.clocks: list[Clock] = []
         self.disks: list[str] = []
 
@@ -247,6 +246,12 @@ class Machines:
             self.broker_of(machine).start()
             self.node_of(machine).start()
 
+    def wipe(self, machine: Machine) -> None:
+        """All that a machine kept is gone: its broker's data, and its journals."""
+        self.broker_of(machine).wipe()
+        for partition in range(self.partitions):
+            shutil.rmtree(os.path.dirname(self.journal_of(machine, partition)))
+
     def replace_journals(self, machine: Machine, other: Machine) -> None:
         """Deletes all journals of a machine, and copies those of another one."""
         for partition in range(self.partitions):
@@ -255,7 +260,7 @@ class Machines:
     def replace_journal(self, machine: Machine, other: Machine, partition: int) -> None:
         """Deletes a partition's journals on a machine, and copies those of another one."""
         journal = self.journal_of(machine, partition)
-        shutil.rmtree(os.path.dirname(journal))
+        shutil.rmtree(os.path.dirname(journal), ignore_errors=True)
         os.makedirs(os.path.dirname(journal))
         command = [NODE_COMMAND, "--copy", self.journal_of(other, partition), journal]
         subprocess.run(command, stdout=subprocess.DEVNULL, check=True)
@@ -284,6 +289,15 @@ class Machines:
             fill(filler, piece)
         time.sleep(FULL_SECONDS)
         os.remove(filler)
+
+    def lost(self) -> list[str]:
+        """Returns what isn't three of three, as the first machine's broker sees it."""
+        control = self.network.command(self.network.machines[0], [self.brokers.nodes[0].write_control()])
+        try:
+            seen = redundancy_of(Control(control[0], "/", control[1:]))
+        except (Refusal, ValueError) as fault:
+            return [str(fault)]
+        return [*what_is_lost(seen), *of_lines(seen, self.partitions)]
 
     def serving(self, partition: int) -> Optional[Machine]:
         """Returns the machine that serves a partition, as the nodes wrote last."""

@@ -6,8 +6,11 @@ import shutil
 import signal
 import subprocess
 import time
-from collections.abc import Sequence
+import sys
+from collections.abc import Iterator, Sequence
 from typing import NamedTuple, Optional
+
+from trials.machines.wire import WireSettings
 
 MACHINES = 3
 COMMANDS = {"ip": "iproute2", "bridge": "iproute2"}
@@ -16,6 +19,7 @@ SILENT, FORWARDING = "0", "3"
 DOWN_SECONDS = 60.0
 LOOK_SECONDS = 0.05
 INSIDE = "eth0"
+WIRE = os.path.join(os.path.dirname(os.path.realpath(__file__)), "wire.py")
 
 
 class Machine(NamedTuple):
@@ -80,6 +84,7 @@ class Network:
     def down(self) -> None:
         """Kills what runs on the machines, and takes them away; what is already gone is no fault."""
         for machine in self.machines:
+            subprocess.run(["ip", "link", "delete", f"{machine.port}w"], capture_output=True, check=False)
             with contextlib.suppress(OSError):
                 self.kill_all(machine)
             for words in (["ip", "link", "delete", machine.port], ["ip", "netns", "delete", machine.namespace]):
@@ -125,6 +130,30 @@ class Network:
         """Two machines no longer hear each other; the others hear both."""
         for machine in (one, other):
             run("bridge", "link", "set", "dev", machine.port, "isolated", "on")
+
+    @contextlib.contextmanager
+    def worse(self, machine: Machine, settings: WireSettings) -> Iterator[None]:
+        """For a while a wire in user space stands between a machine and the bridge, which loses frames or is late."""
+        end, far = f"{machine.port}w", f"{machine.port}x"
+        run("ip", "link", "add", end, "type", "veth", "peer", "name", far)
+        try:
+            for interface in (end, far):
+                run("ip", "link", "set", interface, "up")
+            run("ip", "link", "set", far, "master", self.bridge)
+            run("ip", "link", "set", machine.port, "nomaster")
+            # (this machine is reached by the wire alone, and doesn't answer at the port itself)
+            for interface in (end, machine.port):
+                with open(f"/proc/sys/net/ipv4/conf/{interface}/arp_ignore", "w", encoding="ascii") as to:
+                    to.write("8")
+            wire = subprocess.Popen([sys.executable, WIRE, machine.port, end, *map(str, settings)])
+            try:
+                yield
+            finally:
+                wire.kill()
+                wire.wait()
+        finally:
+            run("ip", "link", "set", machine.port, "master", self.bridge)
+            subprocess.run(["ip", "link", "delete", end], capture_output=True, check=False)
 
     def heal(self) -> None:
         """All machines hear one another again."""

@@ -45,8 +45,11 @@ class ManagedNode:
         write(self.file, json.dumps(description))
 
     def start(self) -> None:
+        """Starts the node, unless it runs: a service manager has one of it."""
         self.is_on = True
         self.is_down = False
+        if self.process is not None and self.process.poll() is None:
+            return
         with open(self.log, "ab") as log:
             self.process = subprocess.Popen(
                 self.network.command(self.machine, self.command),

@@ -7,7 +7,8 @@ import pika
 
 from issuer_host.broker import topology
 from issuer_host.replication.message_mac import MessageMacs
-from issuer_host.replication.messages import Barrier, Mark, Message, NOTES, Record, Records, text_of
+from issuer_host.replication.messages import Barrier, Mark, NOTES, Record
+from machines.message_texts import Message, Records, text_of
 from trials.machines.history import Reader, last_barrier, next_record
 
 # A status that no row of the table names, and the greatest number that a barrier can have.

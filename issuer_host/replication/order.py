@@ -1,14 +1,22 @@
 """Queues script commands and sets statuses, each line once.
 
 usage: order --socket PATH .. [--number TEXT] < LINES
+       order --node-file NODE.json .. [--reach COMMAND] [--number TEXT] [--first N] < LINES
        order --config FILE --journal NAME [--service UNIT ..] [--queued N] [--program PATH] < LINES
 
 The lines have the forms `Q PAN PSN HEX` and `S PAN PSN DIGIT`. They don't go through a queue, which may repeat them: a
 command that is put twice is queued twice, and a late status undoes a later one. It prints the answers.
 
 With --socket the gateway, a bridge or a node puts them to its host while that runs. Nothing stops. A gateway has one
-socket for all its partitions. Of a partition behind a broker name the sockets of both bridges, or of the nodes: the one
-that serves takes the lines, one after another.
+socket for all its partitions. Of a partition behind a broker name the sockets of both bridges: the one that serves
+takes the lines, one after another.
+
+--node-file  the file of this machine's node, or of all nodes that have sockets here. Each line goes to the partition of
+             its card, at the machine that serves it. If it is gone, the line
+             wakes the next one, and waits for it for 90 s at most
+--reach      a command that orders at another machine: in it {} stands for that machine's name. It gets the line,
+             --number and --first: ssh {} issuer-order --node-file /etc/issuer/node.json
+--first      the number of the first line in its order (1)
 
 --number   the order's number: letters, digits and hyphens, 40 at most. It is printed first if it is left out. A line
            with a number that was done isn't put again: the same call after an interruption tells what became of it
@@ -32,7 +40,7 @@ import sys
 
 from issuer_host.facts.refusal import Refusal, tell
 from issuer_host.orders import client
-from issuer_host.orders.texts import is_number, words_of
+from issuer_host.orders.order_types import is_number, words_of
 
 SOCKET, NUMBER = "--socket", "--number"
 
@@ -61,15 +69,15 @@ def lines_of(text: str) -> list[str]:
     return lines
 
 
-def by_socket(sockets: list[str], number: str) -> None:
-    """Orders the lines of the input by a socket."""
+def begun(number: str) -> tuple[str, list[str]]:
+    """Returns the number and the lines of an order that is put to who runs hosts."""
     if number and not is_number(number):
         raise Refusal("the number is letters, digits and hyphens, 40 at most; nothing was ordered")
     lines = lines_of(sys.stdin.read())
     if not number:
         number = os.urandom(8).hex()
         tell("order", f"its number is {number}")
-    client.order(sockets, number, lines)
+    return number, lines
 
 
 def order(words: list[str]) -> None:
@@ -78,11 +86,18 @@ def order(words: list[str]) -> None:
         from issuer_host.orders import arguments, offline
 
         options = arguments.options_of(words, __doc__)
+        if options.node_file:
+            from issuer_host.replication import node_orders
+
+            number, lines = begun(options.number or "")
+            client.order(node_orders.taker_of(options.node_file, options.reach), number, lines, options.first)
+            return
         if not options.socket:
             offline.order(options, lines_of(sys.stdin.read()))
             return
         found = options.socket, options.number or ""
-    by_socket(*found)
+    number, lines = begun(found[1])
+    client.order(client.SocketTaker(found[0]), number, lines)
 
 
 def main(words: list[str]) -> int:

@@ -43,7 +43,7 @@ class StepGuard:
         except TransientFault as fault:
             self.partition.begin_again(str(fault))
         except OSError as fault:
-            said = f"{fault.filename or 'the journals'}: {fault.strerror}"
+            said = f"{fault.filename or 'a call of the system'}: {fault.strerror}"
             self.partition.stop(said) if lasts(fault) else self.partition.begin_again(said)
         except Exception:
             sys.stderr.write(without_cards(traceback.format_exc()))

@@ -1,4 +1,7 @@
-"""The rule by which the messages of a partition's stream make its history, and by which a bridge answers.
+"""A model of the rule by which the messages of a partition's stream make its history, and by which a bridge answers.
+
+The program that decides (`bridge_main`) is compared with it, event by event. It was written before that program and
+apart from it, and no node runs it.
 
 It knows neither broker nor files: `BridgeActions` are what a bridge does, and `Journals` are those of its machine.
 
@@ -27,18 +30,9 @@ import collections
 from collections.abc import Iterator
 from typing import NamedTuple, Optional, Protocol
 
-from issuer_host.replication.messages import (
-    Barrier,
-    LOGS,
-    MAX_RECORDS,
-    Mark,
-    Message,
-    NO_BARRIER,
-    Place,
-    Record,
-    Records,
-)
+from issuer_host.replication.messages import Barrier, LOGS, Mark, NO_BARRIER, Place, Record
 from issuer_host.replication.rule_events import State
+from machines.message_texts import MAX_RECORDS, Message, Records
 
 
 class Diverged(Exception):

@@ -1,10 +1,9 @@
-"""The rule of `rule.Bridge` behind the events and actions of `rule_events`: in the process of the node itself."""
+"""The model of the rule (`rule_model.Bridge`) behind the events and actions of `rule_events`, as the program is."""
 import collections
 import contextlib
 from collections.abc import Hashable, Sequence
 
-from issuer_host.replication.messages import Message, MessageFault, Record, parse, text_of
-from issuer_host.replication.rule import Answer, Bridge, Count, Diverged
+from issuer_host.replication.messages import MessageFault, Record
 from issuer_host.replication.rule_events import (
     Action,
     Again,
@@ -31,6 +30,8 @@ from issuer_host.replication.rule_events import (
     Stop,
     Told,
 )
+from machines.message_texts import Message, parse, text_of
+from machines.rule_model import Answer, Bridge, Count, Diverged
 
 
 class KnownJournals:
@@ -81,7 +82,7 @@ class KnownJournals:
         self.grown.clear()
 
 
-class BridgeRule:
+class BridgeModel:
     """A bridge behind events and actions. It is its `BridgeActions`."""
 
     def __init__(self, beginning: Beginning, bridge: type[Bridge] = Bridge, count: type[Count] = Count) -> None:
