@@ -2,6 +2,7 @@
 import contextlib
 import errno
 import hashlib
+import io
 import itertools
 import json
 import os
@@ -20,7 +21,7 @@ from issuer_host.files.placement import put_in_place
 from issuer_host.files.seals import Seals
 from issuer_host.host.feed_run import limits_over
 from issuer_host.orders.intent_log import Begun, DECLINE, MOST_LINES
-from issuer_host.replication import cluster_keys, positions
+from issuer_host.replication import cluster_keys, node_file, positions, rule_choice
 from issuer_host.replication.journal_files import JournalFiles
 from issuer_host.replication.messages import Barrier, LOGS, NOTES, Record
 from issuer_host.replication.notes import Notes, as_note, read_notes, work_of, write_notes
@@ -58,8 +59,8 @@ def wrong_files(host: Host) -> "list[tuple[object, str]]":
         ({**right, "machine": 1}, "of another kind"),
         ({**right, "figures": "9"}, "of another kind"),
         ({**right, "figures": 1 << 16}, "a port"),
-        ({**right, "window": 0}, "the window is 1 at least"),
-        ({**right, "window": MOST_BEYOND + 1, "rule": "/bin/true"}, "the window is 128 at most"),
+        ({**right, "window": 0}, f"the window is 1 to {MOST_BEYOND}"),
+        ({**right, "window": MOST_BEYOND + 1}, f"the window is 1 to {MOST_BEYOND}"),
         ({**right, "partitions": []}, "there is one at least"),
         ({**right, "partitions": [one, {**one, "journal": "other"}]}, "a number of its own"),
         ({**right, "partitions": [one, {**one, "number": 1}]}, "the same journals"),
@@ -95,6 +96,45 @@ def starts_with_a_key_of_its_own_alone(tally: Tally) -> None:
         os.remove(key)
         os.mkfifo(key, 0o600)
         is_refused(tally, run(tally, "node", path), "a pipe", "is no regular file")
+
+
+def finds_the_program_that_decides(tally: Tally) -> None:
+    """A node takes the program that NODE.json names, or the proved one. One that the gate built needs a named host."""
+    with new_host(tally) as host:
+        proved, built = f"{host.folder}/proved", f"{host.folder}/built"
+        write_text(host.folder, "built", "")
+        write_text(host.folder, "cluster-key", "00" * 32)
+        os.chmod(f"{host.folder}/cluster-key", 0o600)
+        cases: "tuple[tuple[dict[str, str], bool, str], ...]" = (
+            ({}, True, proved),
+            ({}, False, ""),
+            ({"program": "/host"}, True, proved),
+            ({"program": "/host"}, False, built),
+            ({"rule": "/other"}, True, "/other"),
+            ({"rule": "/other", "program": "/host"}, False, "/other"),
+        )
+        for more, is_proved, found in cases:
+            settings = node_file.read(written(host, node_of(host, **more)))
+            places = SimpleNamespace(path=proved, gate_path=built)
+            with unittest.mock.patch.multiple(
+                rule_choice,
+                RULE=places,
+                is_proved=lambda path, name: is_proved and path == proved,
+                is_proved_soon=lambda name: is_proved,
+            ):
+                tally.expect(chosen(settings), found, f"the program of {more}, proved: {is_proved}")
+                with contextlib.redirect_stderr(io.StringIO()) as said:
+                    tally.expect(rule_choice.has_rule(settings), bool(found), f"whether there is one: {more}")
+            warns = "isn't the proved program" in said.getvalue()
+            tally.expect(warns, found not in ("", proved), f"whether the node reports it: {more}, {said.getvalue()!r}")
+            tally.expect("Run ./issuer prove" in said.getvalue(), not found, f"what to run: {more}")
+
+
+def chosen(settings: node_file.NodeSettings) -> str:
+    try:
+        return rule_choice.rule_path(settings)
+    except TransientFault:
+        return ""
 
 
 def reads_keys(tally: Tally) -> None:
@@ -555,6 +595,7 @@ CHECKS = [
         refuses_a_wrong_node_file,
         starts_with_a_key_of_its_own_alone,
         reads_keys,
+        finds_the_program_that_decides,
         begins_each_partition_once,
         begins_with_no_old_journal_uncopied,
         refuses_a_wrong_position,

@@ -35,7 +35,7 @@ UNITS = ("issuer@.service", "issuer-standby@.service", "issuer-gateway.service",
 OPEN_UNIT, LEAST_MEMORY, MOST_MEMORY = "issuer-gateway.service", 25, 90
 FIGURE = re.compile(r"\bissuer_\w+")
 # Where the figures' names stand.
-FIGURE_FILES = ("figures.py", "textfile.py")
+FIGURE_FILES = ("figures.py", "textfile.py", "broker_figures.py")
 
 
 def unit_of(name: str) -> str:

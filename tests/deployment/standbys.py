@@ -145,6 +145,8 @@ def bears_a_folder_that_is_away(tally: Tally) -> None:
         keeping.has(2, "at first")
         comes(lambda: keeping.child("standby") > 0)
         run, folder = keeping.child("standby"), keeping.host.folder
+        # (a run that wasn't looked at yet has no journals that could be missed)
+        time.sleep(2 * feed_run.LOOK_SECONDS)
         os.rename(folder, f"{folder}.away")
         time.sleep(AWAY_SECONDS)
         os.rename(f"{folder}.away", folder)

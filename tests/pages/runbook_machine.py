@@ -78,8 +78,8 @@ class Machine:
         for name in ("systemctl", "journalctl"):
             os.symlink(os.path.join(HOME, "tests/stand_ins", name), os.path.join(self.bin, name))
 
-    def configure(self) -> None:
-        """Writes what the operator has: cards and template, one with a second key set, a PIN, and the unit."""
+    def write_orders(self) -> None:
+        """Writes what the operator has: cards and template, one with a second key set, a PIN; and the configuration."""
         first = template()
         more = first | {"keys": [first["keys"][0], first["keys"][0] | {"dki": 2, "ac": KEYS[1], "smi": KEYS[2]}]}
         cards = "".join(f"{line}\n" for line in ("pan,psn,method", *CARDS))
@@ -97,6 +97,10 @@ class Machine:
         to = os.path.join(self.folder, "etc/issuer")
         words = ["--of", "1", "--cards", f"{to}/cards.csv", "--template", f"{to}/template.json", "--to", to]
         self.run("issuer-partition", *words)
+
+    def configure(self) -> None:
+        """Writes what the operator has, and the unit."""
+        self.write_orders()
         config, journal = self.files
         self.run("issuer-run", "--begin", "show", "--config", config, "--journal", journal)
         listens = ["--listen", f"{self.listens}={DIALECT}", "--figures", str(self.port)]

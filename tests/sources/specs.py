@@ -10,6 +10,9 @@ from issuer_host.facts.paths import HOME
 ITEM = re.compile(r"^( *)(?:(?:abbrev|unfoldable) (?:pub )?|pub (?:record|data) |(?:record|data) )(\S+)")
 OTHER = re.compile(r"^ *(?:use |pub use |pub mod |mod |module |infix)")
 USE = re.compile(r"^(?:ghost |pub )*use Rattle\.(\w+)\.specs\.([\w.]+?)(?:\.\{(.*)\})?(?: as (\w+))?;?$")
+PROOF = re.compile(r"^use Rattle\.(\w+)\.proofs\.[\w.]+\.\{(.*)\}$")
+# What names the only value of which something holds. Its second argument is a proof that there is one.
+ONLY = re.compile(r"(?<!\S)the \(")
 HANDED_UP = re.compile(r"(?m)^pub use Rattle\.(\w+)\.specs\.(\w+)$")
 WHOLE = re.compile(r"^(?:pub )?use Rattle\.(\w+)\.specs\.([\w.]+)(?: .*|\{[^}]*)?$")
 # Modules of a crate's code. Their types are where a path of definitions ends.
@@ -37,6 +40,33 @@ def imports_in(text: str) -> Imports:
             name, _, under = words.partition(" as ")
             imported[under or name] = (found[1], found[2], name)
     return imported
+
+
+def end_of_bracket(text: str, at: int) -> int:
+    """The offset behind the round bracket that closes the one at an offset."""
+    depth = 0
+    for place in range(at, len(text)):
+        depth += {"(": 1, ")": -1}.get(text[place], 0)
+        if not depth:
+            return place + 1
+    return len(text)
+
+
+def without_proofs(text: str) -> str:
+    """A text without the proofs that `the` is given. What they compute is fixed by its first argument."""
+    found = ONLY.search(text)
+    if found is None:
+        return text
+    end = end_of_bracket(text, found.end() - 1)
+    proof = re.match(r"\s*\(", text[end:])
+    behind = end_of_bracket(text, end + proof.end() - 1) if proof else end
+    return text[:end] + without_proofs(text[behind:])
+
+
+def held_of_one(text: str) -> str:
+    """What holds of the only value that a definition is, by `the`; or nothing."""
+    found = ONLY.search(text)
+    return text[found.end() - 1 : end_of_bracket(text, found.end() - 1)] if found else ""
 
 
 def modules_handed_up(text: str) -> dict[str, tuple[str, str]]:
@@ -81,6 +111,8 @@ class Module:
         self.path = path
         self.definitions: list[Definition] = []
         self.imported: Imports = {}
+        # The names that come from proofs of a crate, each with the crate.
+        self.proofs: dict[str, str] = {}
         # Imports that bring in no names one by one: (crate, module).
         self.whole: list[tuple[str, str]] = []
         # The item that the lines belong to, and the comment before the next one.
@@ -108,6 +140,7 @@ class Module:
             self.comment = []
             self.imported |= imports_in(line)
             self.whole += WHOLE.findall(line)
+            self.proofs |= {name: crate for crate, names in PROOF.findall(line) for name in names.split(", ")}
         elif bare.startswith("--"):
             self.comment.append(bare[2:].strip())
         elif not bare:
@@ -160,6 +193,12 @@ class Specs:
         whole = [at for at in module.whole if self.must_resolve(*at)]
         missing += [".".join(at) for at in whole if at not in module.handed_up.values() or not self.module(*at)]
         return missing
+
+    def computing_proofs(self, module: Module) -> list[str]:
+        """The proofs of this repository that a definition cites, and not to show that `the` names one value alone."""
+        text = without_proofs("\n".join(line for item in module.definitions for line in item.lines))
+        words = set(re.split(r"[\s(){}\[\],;.]+", text))
+        return sorted(name for name, crate in module.proofs.items() if crate in self.crates and name in words)
 
     def must_resolve(self, crate: str, module: str) -> bool:
         """Whether a module has definitions of this repository."""

@@ -1,15 +1,23 @@
 """The lists of the pages: faults with their edits and tests, definitions to read, versions, and the map."""
+import functools
 import os
 import re
+import subprocess
 
 from checks import Tally
 from issuer_host import INSTALLED, OF_SOURCES
+from issuer_host.facts.paths import HOME
 from pages import faults
 from pages.naming.tree import found, tests_of, text_of, words_in
 
 DEFINITIONS = "docs/DEFINITIONS.md"
 CHANGES = "CHANGELOG.md"
 MAP = "docs/MAP.md"
+MACHINES, BELIEVED = "docs/MACHINES.md", "## What is believed"
+# The script of a check that a row of what is believed names without one.
+OF_RULE = "tests/machines/replication"
+# What stands in such a row for a fact that no test can show, with what to do in its place.
+NO_TEST = "none: "
 ROW = re.compile(r"\|(.*)\| (\w+), (\w+) \|")
 
 
@@ -43,6 +51,35 @@ def reading_lists_name_definitions(tally: Tally) -> None:
         names = re.findall(r"`([^`]+)`", cell)
         for name in names:
             tally.holds(name in words, f"{DEFINITIONS}:{line}: {path} has no {name}")
+
+
+@functools.cache
+def checks_of_script(path: str) -> frozenset[str]:
+    """The names of a script's checks, by its --list."""
+    command = [os.path.join(HOME, path), "--list"]
+    ran = subprocess.run(command, capture_output=True, text=True, check=True)
+    return frozenset(line.partition(":")[0] for line in ran.stdout.splitlines())
+
+
+def check_named(name: str) -> str:
+    """Returns the name of the check that a row means: that which refuses it, where a wrong body is named."""
+    return re.sub(r"(?<!^)([A-Z])", r"_\1", f"Refused{name}").lower() if name[0].isupper() else name
+
+
+def what_is_believed_has_tests(tally: Tally) -> None:
+    """Each row of what is believed of a node names the tests that stand for it, and their scripts have them."""
+    section = text_of(MACHINES).partition(f"\n{BELIEVED}\n")[2].partition("\n## ")[0]
+    rows = [row.strip("|").split(" | ") for row in section.split("\n") if row.startswith("| ")][1:]
+    tally.holds(rows, f"{MACHINES} has no rows in {BELIEVED!r}")
+    for fact, *tests in rows:
+        shown = tests[-1].strip()
+        named = re.findall(r"((?:`\w+`(?:, | and )?)+)(?: of `([^`]+)`)?", shown)
+        scripts = [path for path in re.findall(r"`([^`]+)`", shown) if "/" in path]
+        is_shown = named or scripts or shown.startswith(NO_TEST)
+        tally.holds(len(tests) == 1 and is_shown, f"{MACHINES}: no test stands for {fact.strip()!r}")
+        for names, script in named:
+            missing = set(map(check_named, re.findall(r"`(\w+)`", names))) - checks_of_script(script or OF_RULE)
+            tally.expect(missing, set(), f"{MACHINES}: checks that {script or OF_RULE} hasn't")
 
 
 def changes_begin_with_the_version(tally: Tally) -> None:
