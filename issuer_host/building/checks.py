@@ -15,6 +15,7 @@ WITHOUT_PROGRAM = (
     "tests/sources/crates",
     "tests/sources/unused",
     "tests/sources/library_calls",
+    "tests/sources/page_calls",
     "tests/pages/field_definitions",
     "tests/pages/figures",
     "tests/program/make_vectors --check",
