@@ -10,6 +10,7 @@ from issuer_host.facts.paths import HOME
 from issuer_host.facts.proof import read_record
 from issuer_host.facts.statuses import Status
 from issuer_host.facts.version import version
+from issuer_host.launcher.first_answer import estimate
 from issuer_host.launcher.hints import hint, new_journal
 from issuer_host.launcher.messages import stop, tell
 from issuer_host.launcher.pin_words import NoPin, filled
@@ -92,7 +93,7 @@ def run(words: Sequence[str], builder: FindBuilder, never_builds: bool) -> int:
         stop(f"{why}, and {FORBIDDEN} to build one. Run ./issuer prove where programs are built")
     stop_without_sources("no program can be built")
     tell(
-        f"{why}: an UNPROVED build answers this run, in about a minute."
+        f"{why}: an UNPROVED build answers this run, {estimate()}."
         " ./issuer prove makes the proved program, once for all later runs"
     )
     return builder().run_unproved(words)

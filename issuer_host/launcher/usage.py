@@ -22,7 +22,8 @@ AFTER = """
 An example:
   ./issuer serve --config examples/config --requests examples/requests --journal journal
 
-Until ./issuer prove has ended, a build without proofs answers, which takes about a minute to make at each run.
+Until ./issuer prove has ended, a build without proofs answers. Each run makes it anew: in a minute on a
+quiet machine, in five or more on a busy one.
 `rt ci` is the gate: it proves every crate, and runs the tests and the program.
 docs/TUTORIAL.md takes one card through; docs/FORMATS.md has the texts of all files, answers and statuses.
 """
