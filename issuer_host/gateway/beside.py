@@ -25,6 +25,7 @@ def add_to(gateway: Gateway, options: argparse.Namespace) -> None:
     if options.spool:
         memory, seconds = Memory(), gateway.limits.seconds
         spool = SpoolQueue(gateway.loop, SpoolWriter(options.spool), memory, seconds, gateway.limited.tell)
+        spool.not_stored = gateway.figures.not_stored
         gateway.handling.advices = Advices(spool, memory)
         gateway.beside.append(spool)
     if options.trace:

@@ -26,6 +26,7 @@ OWN = {
     "unreadable": "Frames that are no message of their dialect",
     "account_answers": "What the account said to requests",
     "account_notices": "What the account was told of requests that it had answered",
+    "unstored": "Advices and notices that the spool didn't take in time: nobody acknowledged them",
     "expired": "Messages whose time limit passed before the host's answer",
     "late": "Answers that came after the time limit, and were dropped",
     "retries": "Lines that were put again after refused 12 or 15",
@@ -73,7 +74,7 @@ class GatewayFigures:
     """Counts since the start, and what is measured when somebody asks."""
 
     def __init__(self, partitions: int, has_hosts: bool = True) -> None:
-        self.late = self.expired = self.retries = self.unreadable = self.connections_begun = 0
+        self.late = self.expired = self.retries = self.unreadable = self.connections_begun = self.unstored = 0
         self.connections = self.in_flight = self.handshakes = self.silent = self.signed_off = 0
         self.labelled: dict[str, dict[Labels, Number]] = {name: {} for name in (*LABELLED, *OF_HOSTS)}
         self.has_hosts, self.host_up = has_hosts, [0] * partitions
@@ -100,6 +101,9 @@ class GatewayFigures:
     def count(self, name: str, *labels: tuple[str, str]) -> None:
         counts = self.labelled[name]
         counts[labels] = counts.get(labels, 0) + 1
+
+    def not_stored(self) -> None:
+        self.unstored += 1
 
     def set(self, name: str, partition: int, value: Number) -> None:
         self.labelled[name][of_partition(partition)] = value

@@ -127,6 +127,8 @@ class SpoolQueue:
         tell: Callable[[str], object],
     ) -> None:
         self.loop, self.writer, self.memory, self.seconds, self.tell = loop, writer, memory, seconds, tell
+        # Is told of each object that wasn't stored in time.
+        self.not_stored: Callable[[], object] = lambda: None
         self.thread = ThreadPoolExecutor(1, "spool")
         self.waiting: list[WaitingObject] = []
         self.work: Optional[asyncio.Task[None]] = None
@@ -143,7 +145,12 @@ class SpoolQueue:
         self.memory.load(line.said() for line in lines)
 
     def add(self, said: dict[str, Any], then: Stored) -> None:
-        self.waiting.append(WaitingObject(self.loop, said, self.seconds, then))
+        def ended(is_stored: bool) -> None:
+            if not is_stored:
+                self.not_stored()
+            then(is_stored)
+
+        self.waiting.append(WaitingObject(self.loop, said, self.seconds, ended))
         if self.work is None:
             self.work = self.loop.create_task(self.write())
 

@@ -178,7 +178,7 @@ class PartitionNode:
         self.end_all()
         self.host.stop()
         self.consumer.close()
-        self.teller.stopped()
+        self.teller.stopped(why)
         self.tell_state(why)
 
     # What is told

@@ -91,5 +91,5 @@ class StateTeller:
         for figure in (self.figures.uncounted, self.figures.serving, self.figures.in_flight, self.figures.oldest):
             figure.set(0)
 
-    def stopped(self) -> None:
-        self.figures.stopped.set(1)
+    def stopped(self, why: str) -> None:
+        self.figures.stop(without_cards(why))

@@ -5,6 +5,8 @@ from typing import NamedTuple, Optional
 
 LINE = re.compile(r"([a-zA-Z_:][\w:]*)(?:\{(.*)\})? (\S+)")
 LABEL = re.compile(r'(\w+)="((?:[^"\\]|\\.)*)"')
+# In a label's text a backslash stands before a quotation mark, a backslash, and the n of a line's end.
+ESCAPED = re.compile(r"\\(.)")
 PARTITION = "partition"
 # So many figures of one page are read: a node of 1,000 partitions has fewer.
 MOST = 200_000
@@ -50,6 +52,12 @@ class FiguresText:
     def number(self, name: str, partition: int) -> float:
         """Returns the sum of a figure of a partition; 0 if there is none."""
         return sum(self.all(name, partition=str(partition)))
+
+    def label(self, name: str, label: str, partition: int) -> str:
+        """Returns the text that a label of a partition's figure has; nothing if there is none."""
+        number = str(partition)
+        found = (one.labels.get(label, "") for one in self.figures.get(name, ()) if one.labels.get(PARTITION) == number)
+        return ESCAPED.sub(lambda one: {"n": " "}.get(one[1], one[1]), next(found, ""))
 
     def partitions(self) -> "list[int]":
         """Returns the partitions that have figures here."""

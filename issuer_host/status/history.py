@@ -151,6 +151,7 @@ class History:
             unserved=0.0 if past.unserved_since is None else now - past.unserved_since,
             followers=followers,
             stopped=stopped,
+            stop_reason=here[stopped[0]].label(STOP_REASON, "reason", number) if stopped else "",
             silent=tuple(name for name in had if name not in here),
             behind=behind_of(here, serving, followers, number),
             answered=answered,
@@ -209,3 +210,4 @@ def behind_of(here: Mapping[str, FiguresText], serving: str, followers: Iterable
 
 
 READ = "issuer_stream_read_offset"
+STOP_REASON = "issuer_partition_stop_reason"

@@ -119,7 +119,8 @@ def stopped_partitions(state: ClusterState) -> Iterator[Todo]:
         what += "nobody serves it." if is_now else "the others go on with it."
         command = f"ssh {partition.stopped[0]} journalctl -u issuer-node -n 20"
         red = [partition.number, *(() if is_now else partition.stopped)]
-        yield Todo(is_now, f"{what} The log says why.", command, frozenset(red))
+        why = f"It says: {partition.stop_reason}." if partition.stop_reason else "The log says why."
+        yield Todo(is_now, f"{what} {why}", command, frozenset(red))
 
 
 def unserved_partitions(state: ClusterState) -> Iterator[Todo]:

@@ -48,6 +48,8 @@ class PartitionState(NamedTuple):
     unserved: float
     followers: "tuple[str, ...]"
     stopped: "tuple[str, ...]"
+    # Why the first of these stopped it; nothing if its figures don't say.
+    stop_reason: str
     # Who had it and doesn't answer.
     silent: "tuple[str, ...]"
     # Messages of the stream that the follower lacks that is most behind.

@@ -54,6 +54,13 @@ PROGRAM = (
     "The program of the partition's last host, by its SHA-256, and 1 if it is the proved one",
     ("partition", "sha256", "proved"),
 )
+STOPS = (
+    "issuer_partition_stop_reason",
+    "Why the partition is stopped here until somebody acts, as the log says it",
+    ("partition", "reason"),
+)
+# Characters of a reason that is a label.
+REASON = 300
 ORDERS = ("issuer_orders", "Lines of orders by what became of them", ("partition", "kind"))
 
 
@@ -74,6 +81,7 @@ class Kinds:
         self.ends_by = prometheus_client.Counter(*ENDS)
         self.orders_by = prometheus_client.Counter(*ORDERS)
         self.program_by = prometheus_client.Gauge(*PROGRAM)
+        self.stops_by = prometheus_client.Gauge(*STOPS)
         self.made: dict[str, Any] = {}
         for attribute, (kind, name, text) in {**KINDS, **more}.items():
             buckets = {"buckets": SECONDS} if kind == "Histogram" else {}
@@ -81,7 +89,8 @@ class Kinds:
         try:
             FiguresServer(port, prometheus_client.generate_latest).start()
         except OSError:
-            for made in (self.answers_by, self.ends_by, self.orders_by, self.program_by, *self.made.values()):
+            with_labels = (self.answers_by, self.ends_by, self.orders_by, self.program_by, self.stops_by)
+            for made in (*with_labels, *self.made.values()):
                 prometheus_client.REGISTRY.unregister(made)
             raise
 
@@ -110,6 +119,7 @@ class Figures:
         self.ends_by: Any = Nothing()
         self.orders_by: Any = Nothing()
         self.program_by: Any = Nothing()
+        self.stops_by: Any = Nothing()
         # The labels of the program of the last host.
         self.program: list[tuple[str, str, str]] = []
         if kinds is not None:
@@ -126,6 +136,7 @@ class Figures:
         self.ends_by = kinds.ends_by
         self.orders_by = kinds.orders_by
         self.program_by = kinds.program_by
+        self.stops_by = kinds.stops_by
         # (a rate sees no first event of a counter that begins with it)
         for kind in DECISIONS:
             self.answers_by.labels(self.partition, kind, "").inc(0)
@@ -177,6 +188,11 @@ class Figures:
     def ended(self, status: int) -> None:
         self.ends_by.labels(self.partition, str(status)).inc()
         self.active.set(0)
+
+    def stop(self, why: str) -> None:
+        """The partition is stopped until somebody acts."""
+        self.stopped.set(1)
+        self.stops_by.labels(self.partition, why[:REASON]).set(1)
 
     def look_at_disk(self) -> None:
         """Measures the journals and their disk."""

@@ -226,14 +226,18 @@ class Machine:
         """Gives the node a port for its figures, from its next start on."""
         self.write({**self.told(), "figures": free_port()})
 
+    def page(self) -> str:
+        """Returns the node's figures; nothing if it gives none."""
+        url = f"http://127.0.0.1:{self.told()['figures']}/metrics"
+        with contextlib.suppress(OSError), urllib.request.urlopen(url, timeout=SECONDS) as answer:
+            text: str = answer.read().decode()
+            return text
+        return ""
+
     def figure(self, name: str, number: int) -> float:
         """Returns a figure of a partition; -1 if there is none."""
-        with contextlib.suppress(OSError), urllib.request.urlopen(
-            f"http://127.0.0.1:{self.told()['figures']}/metrics", timeout=SECONDS
-        ) as answer:
-            found = re.search(rf'^{name}{{partition="{number}"}} ([0-9.]+)', answer.read().decode(), re.MULTILINE)
-            return float(found[1]) if found else -1.0
-        return -1.0
+        found = re.search(rf'^{name}{{partition="{number}"}} ([0-9.]+)', self.page(), re.MULTILINE)
+        return float(found[1]) if found else -1.0
 
     def runs(self) -> bool:
         return self.process is not None and self.process.poll() is None
