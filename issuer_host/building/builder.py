@@ -20,3 +20,8 @@ class SourceBuilder:
         from issuer_host.building import test_run
 
         return test_run.test()
+
+    def docs(self, words: Sequence[str]) -> int:
+        from issuer_host.building import docs
+
+        return docs.write_docs(words)

@@ -18,6 +18,8 @@ WITHOUT_PROGRAM = (
     "tests/sources/page_calls",
     "tests/pages/field_definitions",
     "tests/pages/figures",
+    "tests/pages/site",
+    "tests/pages/claims",
     "tests/program/make_vectors --check",
     "tests/program/kcv",
     "tests/edits/run --check",

@@ -38,6 +38,9 @@ class Builder(Protocol):
     def test(self) -> int:
         ...
 
+    def docs(self, words: Sequence[str]) -> int:
+        ...
+
 
 # Gives the builder. It is called where there are sources alone.
 FindBuilder = Callable[[], Builder]
@@ -68,6 +71,9 @@ def answer(words: Sequence[str], builder: FindBuilder, is_output_open: bool) -> 
         return prove(words, builder, never_builds)
     if words == ["test"]:
         return test(builder, never_builds)
+    if words[:1] == ["docs"]:
+        stop_without_sources("no pages can be made")
+        return builder().docs(words[1:])
     if not is_output_open:
         tell("the output is closed, so nothing was run")
         return Status.OUTPUT

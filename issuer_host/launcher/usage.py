@@ -11,6 +11,7 @@ OF_LAUNCHER = (
         "prove [--anew]",
         "proves the program and builds it, for all later runs; what an earlier run proved is taken, except with --anew",
     ),
+    ("docs [--to FOLDER] [--check]", "makes the pages of the tree, and a site of all pages with a search"),
     ("test", "runs the checks of pages, the tests of all crates and the examples, by builds without proofs"),
     (
         f"--never-build {'|'.join(COMMANDS)} ..",
