@@ -250,8 +250,9 @@ class Gateway:
         service_manager.notify(
             NAME, f"WATCHDOG=1\nSTATUS={len(self.connections)} connections, {self.figures.in_flight} messages in flight"
         )
-        for host in self.hosts:
-            host.look()
+        for number, host in enumerate(self.hosts):
+            # (each has its own moment, so that no step of the loop has them all)
+            self.loop.call_later(TICK_SECONDS * number / len(self.hosts), host.look)
         self.port.expire()
         for connection in list(self.connections):
             connection.look(now)

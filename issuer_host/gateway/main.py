@@ -58,6 +58,7 @@ from issuer_host.gateway.peer_names import PeerNames
 from issuer_host.gateway.pipes import PipeHost
 from issuer_host.host.command import StartOptions, serving_command
 from issuer_host.host.line_host import HostSettings
+from issuer_host.host.supervisor import moment_of
 
 
 def main(words: Sequence[str]) -> int:
@@ -112,7 +113,15 @@ def pipe_hosts(gateway: Gateway, options: argparse.Namespace) -> list[Partition]
         command = serving_command(config, journal, options.callers, start)
         name = f"{NAME}: partition {number}"
         gateway.journals.append(journal)
-        settings = HostSettings(command, journal, name, options.window, is_batched=True, log_later=gateway.logs.later)
+        settings = HostSettings(
+            command,
+            journal,
+            name,
+            options.window,
+            is_batched=True,
+            log_later=gateway.logs.later,
+            moment=moment_of(number),
+        )
         found.append(PipeHost(gateway.loop, settings, gateway.traffic, gateway.figures.of_host(number, journal)))
     gateway.orders = OrderRouter(gateway.loop, options.orders, found)
     return [*found]

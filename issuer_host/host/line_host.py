@@ -24,6 +24,8 @@ class HostSettings(NamedTuple):
     is_batched: bool = False
     # Has the log written in a moment, before an answer leaves; None if it is written line by line.
     log_later: Optional[Callable[[Action], object]] = None
+    # The moment of a second at which it looks at the run, and seals; None where a process has one partition.
+    moment: Optional[float] = None
 
 
 class HostUser(Protocol):
@@ -88,7 +90,7 @@ class LineHost:
         self.loop, self.settings = loop, settings
         self.user, self.watcher, self.figures, self.pacer = user, watcher, figures, pacer
         self.lines = LineQueue(settings.window)
-        self.supervisor = Supervisor(loop, settings.command, settings.journal, self, settings.name)
+        self.supervisor = Supervisor(loop, settings.command, settings.journal, self, settings.name, settings.moment)
         self.reader = RecordsReader(loop, settings.journal, settings.name, self.records_read)
         self.is_loaded = self.is_flushing = False
 

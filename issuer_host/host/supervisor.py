@@ -25,6 +25,9 @@ LOAD_BYTES = 2_000_000
 # The line that a host gets first: it has no form, and leaves no record. Its answer comes once the journals are loaded.
 PROBE, PROBE_ANSWER = b"x", "refused 1 1"
 LOOK_SECONDS = 1.0
+EARLY_SECONDS = 0.01
+# Multiples of the golden ratio are far apart, however many there are.
+GOLDEN_RATIO = (5**0.5 - 1) / 2
 
 
 class HostOwner(Protocol):
@@ -49,8 +52,18 @@ class HostOwner(Protocol):
 class Supervisor:
     """A partition's host, one run after another."""
 
-    def __init__(self, loop: Loop, command: Sequence[str], journal: str, owner: HostOwner, name: str) -> None:
+    def __init__(
+        self,
+        loop: Loop,
+        command: Sequence[str],
+        journal: str,
+        owner: HostOwner,
+        name: str,
+        moment: Optional[float] = None,
+    ) -> None:
+        """It looks at each run at a moment of the second; without one, a second after the run's start and so on."""
         self.loop, self.command, self.journal, self.owner = loop, command, journal, owner
+        self.moment = moment
         # Who tells of it.
         self.name = name
         self.lifecycle = Lifecycle(limits_of(journal))
@@ -215,7 +228,7 @@ class Supervisor:
     # Time
 
     def look_later(self, run: HostProcess) -> None:
-        self.loop.call_later(LOOK_SECONDS, lambda: self.look(run))
+        self.loop.call_later(seconds_until(self.moment, self.clock()), lambda: self.look(run))
 
     def look(self, run: HostProcess) -> None:
         """A look at the run each second."""
@@ -229,6 +242,18 @@ class Supervisor:
     @staticmethod
     def clock() -> float:
         return time.monotonic()
+
+
+def moment_of(partition: int) -> float:
+    """The moment of a second at which a partition is looked at: its seals keep no other one's lines waiting."""
+    return partition * GOLDEN_RATIO % LOOK_SECONDS
+
+
+def seconds_until(moment: Optional[float], now: float) -> float:
+    """From now to the next such moment of a second; without one, to the next look."""
+    wait = LOOK_SECONDS if moment is None else LOOK_SECONDS - (now - moment) % LOOK_SECONDS
+    # (a timer may be early by a little)
+    return wait if wait > EARLY_SECONDS else wait + LOOK_SECONDS
 
 
 def limits_of(journal: str) -> Limits:

@@ -8,6 +8,7 @@ from issuer_host.facts.statuses import Status, meaning_of
 from issuer_host.host.command import StartOptions, serving_command
 from issuer_host.host.event_loop import Action, Loop
 from issuer_host.host.line_host import HostSettings
+from issuer_host.host.supervisor import moment_of
 from issuer_host.orders.partition_host import PartitionHost
 from issuer_host.replication.node_file import NodeSettings, PartitionSettings
 from issuer_host.replication.node_stops import StepGuard
@@ -43,7 +44,8 @@ class NodeHost:
         start = StartOptions(node.program or "", NODE, settings.last_run)
         command = serving_command(settings.configuration, settings.journal, settings.callers, start)
         name = f"node: partition {settings.number}"
-        host = HostSettings(command, settings.journal, name, orders=settings.orders)
+        moment = moment_of(settings.number)
+        host = HostSettings(command, settings.journal, name, orders=settings.orders, moment=moment)
         self.serving = PartitionHost(
             loop, host, figures, consumer.replies, self, self, NotedWork(settings.journal, self, name)
         )
