@@ -1,4 +1,5 @@
 """The host's answers: their first words, the refusals by name, and the reply of a decision."""
+import functools
 from enum import IntEnum
 from typing import NamedTuple, Optional
 
@@ -54,6 +55,13 @@ def kind_of(answer: str) -> Kind:
     if word == REFUSED:
         return Kind(REFUSED, rest.partition(" ")[0])
     return KINDS.get(word) or Kind(word)
+
+
+# (who reads an answer, seals its record and responds by it splits it once)
+@functools.lru_cache(4)
+def words_of(answer: str) -> "tuple[str, ...]":
+    """The words of an answer."""
+    return tuple(answer.split(" "))
 
 
 def reply_of(answer: str) -> Optional[str]:

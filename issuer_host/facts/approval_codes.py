@@ -2,6 +2,8 @@
 
 DIGITS = "0123456789ABCDEFGHIJKLMNOPQRSTUVWXYZ"
 LENGTH, SHARDS = 6, 16
+# All pairs of digits, in their order.
+PAIRS = [first + second for first in DIGITS for second in DIGITS]
 # So many codes there are, 000000 apart: then they come again.
 CODES = len(DIGITS) ** LENGTH - 1
 
@@ -11,12 +13,10 @@ def approval_code(shard: int, place: int) -> str:
 
     No other decision of a host has it, until a shard has 136,048,895 records.
     """
-    number = (place * SHARDS + shard) % CODES + 1
-    digits = ""
-    for _ in range(LENGTH):
-        number, digit = divmod(number, len(DIGITS))
-        digits = DIGITS[digit] + digits
-    return digits
+    number: int = (place * SHARDS + shard) % CODES + 1
+    number, last = divmod(number, len(PAIRS))
+    first, middle = divmod(number, len(PAIRS))
+    return PAIRS[first] + PAIRS[middle] + PAIRS[last]
 
 
 def decision_of_code(code: str) -> "tuple[int, int]":

@@ -13,7 +13,7 @@ import os
 from collections.abc import Callable
 from typing import Optional
 
-from issuer_host.facts.answers import RECORDED, kind_of
+from issuer_host.facts.answers import RECORDED, kind_of, words_of
 from issuer_host.facts.masks import masked
 from issuer_host.facts.refusal import Refusal
 from issuer_host.facts.troubles import Troubles
@@ -145,9 +145,9 @@ def is_of_name(file: int, path: str) -> bool:
 
 def place_of(answer: str) -> str:
     """Returns what an answer says of its record, or of its refusal, as members of an object."""
-    word, _, rest = answer.partition(" ")
+    words = words_of(answer)
+    word = words[0]
     if word in RECORDED:
-        shard, index, *_ = rest.split(" ", 2)
-        return f'"kind":"{word}","shard":{shard},"place":{index}'
+        return f'"kind":"{word}","shard":{words[1]},"place":{words[2]}'
     refusal = kind_of(answer).refusal
     return f'"kind":"{word}","refusal":{int(refusal)}' if refusal.isdigit() else f'"kind":"{word}"'

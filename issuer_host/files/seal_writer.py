@@ -2,7 +2,7 @@
 import time
 from collections.abc import Callable
 
-from issuer_host.facts.answers import RECORDED
+from issuer_host.facts.answers import RECORDED, words_of
 from issuer_host.facts.limits import MAX_SHARDS
 from issuer_host.facts.refusal import Refusal, tell
 from issuer_host.facts.troubles import Troubles
@@ -45,10 +45,9 @@ class SealWriter:
 
     def answer(self, text: str) -> None:
         """Takes an answer: the record that it names is durable."""
-        word, _, place = text.partition(" ")
-        numbers = place.split(" ", 2)
-        if word in RECORDED and len(numbers) > 1:
-            self.are_durable(int(numbers[0]), int(numbers[1]) + 1)
+        words = words_of(text)
+        if words[0] in RECORDED and len(words) > 2:
+            self.are_durable(int(words[1]), int(words[2]) + 1)
 
     def are_durable(self, shard: int, count: int) -> None:
         """So many records of a shard are durable."""

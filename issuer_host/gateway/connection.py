@@ -3,7 +3,7 @@
 import asyncio
 from typing import TYPE_CHECKING, Optional, Protocol, cast
 
-from issuer_host.gateway import mapping, responses
+from issuer_host.gateway import responses
 from issuer_host.gateway.figures import GatewayFigures
 from issuer_host.gateway.frames import BadFrame, FrameBuffer, KEEP_ALIVES_A_SECOND, KeepAlives, framer_of
 from issuer_host.gateway.handling import Handling
@@ -129,7 +129,7 @@ class Connection(asyncio.BufferedProtocol):
             except BadFrame as fault:
                 self.close_after_answers("a bad frame", str(fault))
                 return
-            if self.keep_alives.are_too_many(self.buffer.keep_alives, self.heard):
+            if self.buffer.keep_alives and self.keep_alives.are_too_many(self.buffer.keep_alives, self.heard):
                 self.close_after_answers("keep-alives", f"more than {KEEP_ALIVES_A_SECOND} keep-alives in a second")
                 return
             if data is None:
@@ -193,7 +193,7 @@ class Connection(asyncio.BufferedProtocol):
             self.owner.limited.tell(f"a response can't be written, and is a malfunction: {fault}")
             message = responses.malfunction(self.dialect, message)
             data = self.codec.pack(message)
-        code = str(message.elements[mapping.CODE])
+        code = message.code
         self.owner.figures.responded(code, self.loop.time() - began)
         if self.transport is not None:
             if not self.unsent:

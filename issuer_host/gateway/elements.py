@@ -1,5 +1,6 @@
 """The bytes of an element, read and written by its format. A reader and a writer are made once for each format."""
 
+import functools
 from collections.abc import Callable
 from typing import Optional, Union
 
@@ -26,6 +27,8 @@ SIGNS = "CD"
 SEPARATOR = "="
 LACKING = "\ufffd"
 NOT_WHOLE, NO_DIGITS = "it isn't whole", "it isn't decimal"
+# So many kinds in a codec are kept, with their bytes.
+SETS = 64
 NO_LENGTH, NO_SIGN = "its length isn't decimal", "its sign isn't C or D"
 
 
@@ -40,6 +43,7 @@ BodyReader = Callable[[bytes, int], Value]
 Writer = Callable[[Value], bytes]
 
 
+@functools.lru_cache(SETS)
 def bytes_of(kind: str, codec: str) -> bytes:
     """The bytes that a text of this kind may have in a codec."""
     allowed = set(CHARACTERS[kind].encode(codec))

@@ -4,6 +4,7 @@ Figures of hosts that the gateway starts itself have the names that a bridge's h
 """
 
 import bisect
+import functools
 import os
 import time
 from collections.abc import Iterator, Mapping
@@ -17,6 +18,8 @@ from issuer_host.gateway.admission import REASONS
 from issuer_host.gateway.log import tell
 from issuer_host.gateway.mapping import REFUSALS
 
+# The labels of so many codes in element 39 are kept.
+CODES = 256
 SECONDS = (0.001, 0.002, 0.005, 0.01, 0.02, 0.05, 0.1, 0.2, 0.5, 1, 2, 5, 10, 30)
 
 # The gateway's own, all counters but those of `GAUGES`.
@@ -99,6 +102,10 @@ class GatewayFigures:
         return sum(self.host_up)
 
     def count(self, name: str, *labels: tuple[str, str]) -> None:
+        self.add(name, labels)
+
+    def add(self, name: str, labels: Labels) -> None:
+        """Counts by labels that are made once, as `count` does."""
         counts = self.labelled[name]
         counts[labels] = counts.get(labels, 0) + 1
 
@@ -118,7 +125,7 @@ class GatewayFigures:
         return PartitionFigures(self, partition, journal)
 
     def responded(self, code: str, seconds: float) -> None:
-        self.count("responses", ("code", code))
+        self.add("responses", labels_of_code(code))
         self.seconds += seconds
         self.buckets[bisect.bisect_left(SECONDS, seconds)] += 1
 
@@ -217,6 +224,17 @@ class PartitionFigures:
 
 def of_partition(partition: int) -> Labels:
     return (("partition", str(partition)),)
+
+
+@functools.lru_cache(CODES)
+def labels_of_code(code: str) -> Labels:
+    return (("code", code),)
+
+
+@functools.lru_cache(None)
+def labels_of_what(what: str) -> Labels:
+    """The labels of what is done with a message."""
+    return (("what", what),)
 
 
 def labels_of(partition: int, kind: Kind) -> Labels:

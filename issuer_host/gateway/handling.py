@@ -6,12 +6,12 @@ from typing import Optional, Protocol
 
 from issuer_host.facts import answers
 from issuer_host.facts.masks import masked
-from issuer_host.gateway import mapping, requests, responses
+from issuer_host.gateway import mapping, plans, responses
 from issuer_host.gateway.account import elements_of
 from issuer_host.gateway.account_order import AccountOrder, RequestOnItsWay, Result
 from issuer_host.gateway.advices import Advices
 from issuer_host.gateway.dialect import Dialect
-from issuer_host.gateway.figures import GatewayFigures
+from issuer_host.gateway.figures import GatewayFigures, labels_of_what
 from issuer_host.gateway.log import Limited
 from issuer_host.gateway.message import Message, Unreadable
 from issuer_host.gateway.requests import RequestLine
@@ -93,7 +93,7 @@ class Handling:
         if what == mapping.DECLINE and self.advices and peer.dialect.advices.answer_to(message.kind):
             what = mapping.ACKNOWLEDGE
             self.acknowledge(exchange, self.advices)
-        self.figures.count("messages", ("what", what))
+        self.figures.add("messages", labels_of_what(what))
         if what == mapping.DECIDE:
             self.decide(exchange)
         elif what == mapping.ECHO:
@@ -123,7 +123,7 @@ class Handling:
 
     def decide(self, exchange: Exchange) -> None:
         """Asks a host, if the message becomes a request line."""
-        line = requests.line_of(exchange.peer.dialect, exchange.message, datetime.date.today())
+        line = plans.line_of(exchange.peer.dialect, exchange.message, datetime.date.today)
         if not isinstance(line, RequestLine):
             exchange.why = line.why
             self.limited.tell(f"{exchange.name} is answered without a host: {line.why}")
@@ -169,9 +169,9 @@ class Handling:
         elif answer is None:
             self.settle(exchange, mapping.NO_DECISION)
         else:
-            if answers.kind_of(answer).word == answers.REFUSED:
+            if answer.startswith(answers.REFUSED):
                 self.limited.tell(f"{exchange.name}: {answer}")
-            self.respond(exchange, responses.answered(exchange.peer.dialect, exchange.message, answer))
+            self.respond(exchange, plans.answered(exchange.peer.dialect, exchange.message, answer))
         self.let_go(exchange)
 
     def acknowledge(self, exchange: Exchange, advices: Advices) -> None:

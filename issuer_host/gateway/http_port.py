@@ -65,7 +65,7 @@ class HttpPeer:
     def respond(self, message: Message, began: float) -> str:
         if not self.response.done():
             self.response.set_result(message)
-        return str(message.elements[mapping.CODE])
+        return message.code
 
     def hold(self) -> None:
         """The server has it in flight."""
@@ -141,7 +141,7 @@ class HttpPort:
         self.handling.figures.count("messages", ("what", mapping.DECIDE))
         self.handling.put(exchange, asked.line)
         message = await response
-        self.handling.figures.responded(str(message.elements[mapping.CODE]), self.loop.time() - began)
+        self.handling.figures.responded(message.code, self.loop.time() - began)
         return response_of(exchange, message)
 
 
@@ -211,7 +211,7 @@ def joined(tags: object) -> bytes:
 
 def response_of(exchange: Exchange, message: Message) -> web.Response:
     """The response in JSON: a decision, a refusal, or that nobody knows."""
-    code = str(message.elements[mapping.CODE])
+    code = message.code
     found: dict[str, Any] = {"response_code": code}
     if exchange.verdict:
         found["account"] = exchange.verdict

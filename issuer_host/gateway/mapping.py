@@ -3,6 +3,7 @@
 `tests/gateway/parts` compares page and code.
 """
 
+import functools
 from typing import NamedTuple, Optional
 
 from issuer_host.facts.answers import RefusalNumber
@@ -164,10 +165,13 @@ def code_of(response_code: bytes, approves: bool, edition: str) -> str:
 # What is done with a message, by its type's second, third and fourth digits (class, function, origin).
 DECIDE, ECHO, DECLINE, PASS_OVER = "decide", "echo", "decline", "pass over"
 ACKNOWLEDGE = "acknowledge"
+# What is done is kept for so many types.
+KINDS = 1024
 REQUEST_CLASSES, REVERSAL_CLASS, NETWORK_CLASS = "12", "4", "8"
 ACQUIRER = "01"
 
 
+@functools.lru_cache(KINDS)
 def what_to_do(kind: str) -> str:
     """Says what is done with a message of a type, as 0100."""
     of_class, function, origin = kind[1], kind[2], kind[3]

@@ -5,6 +5,7 @@ from collections.abc import Sequence
 from dataclasses import dataclass, field
 from typing import Optional, cast
 
+from issuer_host.gateway import mapping
 from issuer_host.gateway.dialect import BITMAP_ELEMENTS, Dialect, Format, LAST_ELEMENT, LinkHeader
 from issuer_host.gateway.elements import SEPARATOR, TornElement, Value, reader_of, writer_of
 
@@ -30,6 +31,11 @@ class Message:
     written: dict[int, bytes] = field(default_factory=dict, compare=False)
     # Of a request and its response: the bytes of the request's headers, as they came.
     header: bytes = field(default=b"", compare=False)
+
+    @property
+    def code(self) -> str:
+        """Element 39, which each response has."""
+        return str(self.elements[mapping.CODE])
 
 
 class Unreadable(Exception):

@@ -13,7 +13,7 @@ from issuer_host.gateway.dialect_file import BadDialect, named, read_dialect, sh
 from issuer_host.gateway.dialling import DialledPlace
 from issuer_host.gateway.frames import GREATEST_FRAME
 from issuer_host.gateway.gateway import Bounds, Listener
-from issuer_host.gateway.message import Codec
+from issuer_host.gateway.plans import PlanningCodec
 
 DIALECTS = os.path.join(HOME, "deploy", "dialects")
 LISTEN = "8583=1987-ascii"
@@ -124,7 +124,7 @@ def dialled_of(text: str) -> DialledPlace:
     host, _, port = place.rpartition(":")
     if not name or not host or not port.isdecimal() or not 0 < int(port) <= 65535:
         raise BadOptions(f"--connect is HOST:PORT=DIALECT, and not {text}")
-    return DialledPlace(host.strip("[]"), int(port), Codec(dialect_of(name)))
+    return DialledPlace(host.strip("[]"), int(port), PlanningCodec(dialect_of(name)))
 
 
 def listener_of(text: str) -> Listener:
@@ -133,7 +133,7 @@ def listener_of(text: str) -> Listener:
     address, _, port = place.rpartition(":")
     if not name or not port.isdecimal() or int(port) > 65535:
         raise BadOptions(f"--listen is [ADDRESS:]PORT=DIALECT, and not {text}")
-    return Listener(address or LOOPBACK, int(port), Codec(dialect_of(name)))
+    return Listener(address or LOOPBACK, int(port), PlanningCodec(dialect_of(name)))
 
 
 def dialect_of(name: str) -> Dialect:

@@ -23,7 +23,7 @@ class Decision(NamedTuple):
 
 def decision_of(answer: str) -> Optional[Decision]:
     """The decision of an answer, or None if it is a refusal."""
-    words = answer.split(" ")
+    words = answers.words_of(answer)
     if len(words) != ANSWER_WORDS or words[0] not in answers.DECISIONS:
         return None
     _, shard, place, approves, code, data = words
@@ -54,14 +54,18 @@ def answered(dialect: Dialect, request: Message, answer: str) -> Message:
     """The response to a request that a host answered."""
     decision = decision_of(answer)
     if decision is None:
-        refusal = mapping.refusal_of(answers.kind_of(answer).refusal)
-        known = refusal is not None and refusal in mapping.REFUSALS
-        return settled(dialect, request, mapping.REFUSALS[refusal] if refusal and known else mapping.MALFUNCTION)
+        return settled(dialect, request, refused(answer))
     code = mapping.code_of(decision.response_code, decision.approves, dialect.edition)
     more: dict[int, Value] = {mapping.CHIP: decision.data}
     if decision.approves:
         more[mapping.APPROVAL] = approval_code(decision.shard, decision.place)
     return response_to(dialect, request, code, more)
+
+
+def refused(answer: str) -> mapping.Outcome:
+    """What an answer comes to that is no decision."""
+    refusal = mapping.refusal_of(answers.kind_of(answer).refusal)
+    return mapping.MALFUNCTION if refusal is None else mapping.REFUSALS.get(refusal, mapping.MALFUNCTION)
 
 
 def is_accepted(dialect: Dialect, request: Message) -> bool:

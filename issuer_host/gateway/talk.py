@@ -54,9 +54,10 @@ class Talk:
 
     def take(self, message: Message) -> bool:
         """Sees a network message. Returns whether it answers one of the gateway's own, so that nothing follows."""
-        kind, elements = message.kind, message.elements
+        kind = message.kind
         if kind[1] != mapping.NETWORK_CLASS:
             return False
+        elements = message.elements
         if mapping.what_to_do(kind) == mapping.ECHO:
             if responses.is_accepted(self.dialect, message):
                 self.session.told(str(elements.get(self.dialect.network.element, "")))

@@ -102,8 +102,8 @@ class HostProcess:
             self.end()
             return
         *whole, self.unread = (self.unread + piece).split(b"\n")
-        for line in whole:
-            text = line.decode("ascii", errors="replace")
+        # (all lines are decoded together)
+        for text in b"\n".join(whole).decode("ascii", errors="replace").split("\n") if whole else ():
             if text.partition(" ")[0] in ANSWERS:
                 self.answers += 1
                 self.on_answer(text)
