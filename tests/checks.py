@@ -6,12 +6,16 @@ A script hands its checks to `run_script`, in their order. Its words are then:
     SCRIPT NAME ..      runs those of these names, in which `*` stands for any text
     SCRIPT --list       prints the names, and what each shows; it runs none
 
+Checks that mostly wait run side by side, if their script says so. Checks that read files alone need no built program:
+a script that has some runs them without one, by --without-program no others, and by --with-program the others.
+
 A check compares as often as it likes, and each comparison counts. One that fails says what was run, what was expected
 and what came. A check that ends early has failed once more, and so has one that compared nothing. Behind the failures
 stands how to run each check alone that failed. The last line is `N passed, M failed`.
 """
 import argparse
 import fnmatch
+import json
 import os
 import re
 import shlex
@@ -20,10 +24,12 @@ import subprocess
 import sys
 import traceback
 from collections.abc import Callable, Iterable, Sequence
+from functools import partial
 from typing import Any, NamedTuple, NoReturn
 
 # Every script here imports this module or `runs` first: so they find the package `issuer_host` too.
 sys.path.insert(0, os.path.dirname(os.path.dirname(os.path.realpath(__file__))))
+from check_lanes import Work, run_in_lanes
 from issuer_host.facts.paths import HOME, built_program
 
 # Of a value that was expected or came, and of what was run, so many characters are printed.
@@ -31,6 +37,7 @@ SHOWN = 600
 # Of one check so many failures are printed.
 MOST_PRINTED = 10
 ALONE = "alone: "
+BUILD_FIRST = "build the program first: ./issuer prove, or rt ci"
 
 
 class Tally:
@@ -66,6 +73,13 @@ class Tally:
             return True
         self.fail(what)
         return False
+
+    def add(self, passed: int, failed: int) -> None:
+        """Adds what the check came to in a process of its own, which printed what failed."""
+        self.passed += passed
+        self.failed += failed
+        if failed:
+            self.failures[self.name] = failed
 
     def fail(self, what: str, *more: str) -> None:
         self.failed += 1
@@ -114,6 +128,10 @@ class Check(NamedTuple):
     body: Callable[[Tally], object]
     # Whether it may find nothing to compare, as in a page without figures.
     may_be_empty: bool = False
+    # Whether it runs the built program.
+    needs_program: bool = True
+    # Whether it looks at what others left: where checks run side by side it begins once all before it have ended.
+    is_last: bool = False
 
 
 def check_of(body: Callable[[Tally], object]) -> Check:
@@ -147,13 +165,23 @@ def words_of_script(usage: str, **more: object) -> argparse.Namespace:
     return words.parse_args()
 
 
-def options_of(usage: str, **more: object) -> argparse.Namespace:
-    """Returns the words of a script that runs the built program: --program, --short, and others."""
+def options_of(usage: str, has_others: bool = False, **more: object) -> argparse.Namespace:
+    """Returns the words of a script that runs the built program: --program, --short, and others.
+
+    A script that has checks without it too runs those where nothing is built, by --without-program no others, and by
+    --with-program the others.
+    """
+    if has_others:
+        more = {**more, "without-program": False, "with-program": False}
     options = words_of_script(usage, program=built_program(), short=False, **more)
     options.program = os.path.abspath(options.program)
-    if not options.list and not os.access(options.program, os.X_OK):
-        sys.exit("build the program first: ./issuer prove, or rt ci")
+    if not options.list and not has_others and not is_built(options.program):
+        sys.exit(BUILD_FIRST)
     return options
+
+
+def is_built(program: str) -> bool:
+    return os.access(program, os.X_OK)
 
 
 def script_name() -> str:
@@ -184,10 +212,48 @@ def run_check(tally: Tally, check: Check) -> None:
         tally.fail("the check compared nothing")
 
 
-def run_script(options: argparse.Namespace, checks: Iterable[Check], alone: str = "") -> NoReturn:
+def run_alone(tally: Tally, check: Check) -> str:
+    """Runs a check in a process of its own. Returns how many of its comparisons passed and failed."""
+    tally.passed = tally.failed = 0
+    run_check(tally, check)
+    return json.dumps([tally.passed, tally.failed])
+
+
+def run_side_by_side(tally: Tally, checks: Sequence[Check], count: int) -> None:
+    """Runs so many checks at a time. What they print comes in their order."""
+    works = [Work(partial(run_alone, tally, check), check.is_last) for check in checks]
+    for check, ended in zip(checks, run_in_lanes(works, count)):
+        print(ended.text, end="", flush=True)
+        tally.begin(check.name)
+        if ended.returned is None:
+            tally.fail(f"its process ended with {ended.status}")
+        else:
+            tally.add(*json.loads(ended.returned))
+
+
+def with_program(options: argparse.Namespace, tally: Tally, checks: Sequence[Check]) -> list[Check]:
+    """Returns the checks that can be run. One that needs the program, which isn't built, is a failure."""
+    others = [check for check in checks if not check.needs_program]
+    if getattr(options, "without_program", False):
+        return others
+    if getattr(options, "with_program", False):
+        checks, others = [check for check in checks if check.needs_program], []
+    if not hasattr(options, "without_program") or is_built(options.program):
+        return list(checks)
+    for check in checks:
+        if check.needs_program:
+            tally.begin(check.name)
+            tally.fail(BUILD_FIRST)
+    return others
+
+
+def run_script(
+    options: argparse.Namespace, checks: Iterable[Check], alone: str = "", side_by_side: int = 1
+) -> NoReturn:
     """Lists the checks, or runs those that the words name, and ends the script.
 
-    `alone` is how the script is called that runs a check alone, if its path doesn't do.
+    `alone` is how the script is called that runs a check alone, if its path doesn't do. So many checks run
+    `side_by_side`, each in a process of its own.
     """
     every = list(checks)
     twice = {check.name for check in every if sum(other.name == check.name for other in every) > 1}
@@ -200,6 +266,10 @@ def run_script(options: argparse.Namespace, checks: Iterable[Check], alone: str 
             print(f"{check.name}: {check.does}" if check.does else check.name)
         sys.exit(0)
     tally = Tally(getattr(options, "program", ""), alone or script_name())
-    for check in chosen_of(every, options.names):
-        run_check(tally, check)
+    chosen = with_program(options, tally, chosen_of(every, options.names))
+    if side_by_side > 1 and len(chosen) > 1:
+        run_side_by_side(tally, chosen, side_by_side)
+    else:
+        for check in chosen:
+            run_check(tally, check)
     tally.end()

@@ -1,13 +1,15 @@
-"""The scripts that need no built program, and end in seconds, the longest first. `tests/all` and `./issuer test` begin
-with them.
-"""
+"""What needs no built program and ends in seconds, the longest first. `tests/all`, `./issuer test` begin with it."""
 
 WITHOUT_PROGRAM = (
     "tests/lint",
     "tests/names",
     "tests/program/card",
     "tests/program/configuration_check",
+    "tests/gateway/parts",
+    "tests/deployment/deploy --without-program",
     "tests/host/lifecycle",
+    "tests/gateway/handling",
+    "tests/status/view",
     "tests/machines/availability",
     "tests/gateway/dialects",
     "tests/gateway/admission",
@@ -20,6 +22,9 @@ WITHOUT_PROGRAM = (
     "tests/pages/figures",
     "tests/pages/site",
     "tests/pages/claims",
+    "tests/pages/runbook --without-program",
+    "tests/pages/changes --without-program",
+    "tests/pages/pipes --without-program",
     "tests/program/make_vectors --check",
     "tests/program/kcv",
     "tests/edits/run --check",

@@ -1,5 +1,7 @@
 """A RabbitMQ broker of one's own on the loopback: its data are in one folder, and it is ended by killing it."""
+import contextlib
 import os
+import secrets
 import shutil
 import signal
 import socket
@@ -14,6 +16,9 @@ CONTROL = f"{FOLDER}/rabbitmqctl"
 # (on a busy machine with the lowest share it takes more than a minute)
 START_SECONDS = 900
 LOOK_SECONDS = 0.1
+# The ports that the system gives to connections begin here. The ports of pages are below the other one.
+EPHEMERAL = "/proc/sys/net/ipv4/ip_local_port_range"
+LEAST_PORT = 12_000
 
 
 def why_absent() -> Optional[str]:
@@ -22,10 +27,14 @@ def why_absent() -> Optional[str]:
 
 
 def free_port() -> int:
-    with socket.socket() as taken:
-        taken.bind(("127.0.0.1", 0))
-        port: int = taken.getsockname()[1]
-    return port
+    """A port that nothing listens at, and that the system gives to no connection before it is listened at."""
+    with open(EPHEMERAL, encoding="ascii") as text:
+        first = int(text.read().split()[0])
+    while True:
+        port = LEAST_PORT + secrets.randbelow(first - LEAST_PORT)
+        with socket.socket() as taken, contextlib.suppress(OSError):
+            taken.bind(("127.0.0.1", port))
+            return port
 
 
 class PrivateBroker:
