@@ -13,6 +13,7 @@ from pages.naming.tree import found, tests_of, text_of, words_in
 DEFINITIONS = "docs/DEFINITIONS.md"
 CHANGES = "CHANGELOG.md"
 MAP = "docs/MAP.md"
+DECISIONS = "docs/decisions/README.md"
 MACHINES, BELIEVED = "docs/MACHINES.md", "## What is believed"
 # The script of a check that a row of what is believed names without one.
 OF_RULE = "tests/machines/replication"
@@ -90,6 +91,17 @@ def changes_begin_with_the_version(tally: Tally) -> None:
     tally.expect(first and first[1], "Not released" if is_open else version, f"{CHANGES}: its first section")
     has_row = is_open or f"\n| {version} |" in changes
     tally.holds(has_row, f"{CHANGES}: the table has no row for {version}")
+
+
+def decisions_have_their_form(tally: Tally) -> None:
+    """Each page of a decision has a title, context, choice and consequence, and the list has it by its title."""
+    listed = dict((name, title) for title, name in re.findall(r"(?m)^- \[(.+)\]\(([^)]+)\)$", text_of(DECISIONS)))
+    pages = {os.path.basename(path): text_of(path) for path in found("docs/decisions/[0-9]*.md")}
+    tally.expect(sorted(listed), sorted(pages), f"the pages that {DECISIONS} lists")
+    for name, text in pages.items():
+        tally.expect(text.split("\n")[0], f"# {listed.get(name)}", f"docs/decisions/{name}: its title, as listed")
+        heads = re.findall(r"(?m)^\*\*(\w+)\.\*\*", text)
+        tally.expect(heads, ["Context", "Choice", "Consequence"], f"docs/decisions/{name}: its parts")
 
 
 def rows_of_map(heading: str) -> dict[str, set[str]]:
