@@ -1,7 +1,8 @@
 """What a cluster of brokers has of copies: its nodes, the members of each queue and stream, and the line of each queue.
 
 `rabbitmqctl` ends with 0 where nothing was done, and lists members that hold nothing. So all here is what a broker's
-node itself sees: which nodes run, which members answer, and how many nodes of machines stand in each queue's line.
+node itself sees: which nodes run, which members answer, and how many nodes of machines stand in each queue's line. A
+copy of a stream answers if its process lives: of one that can't start a broker shows the offset of its last try.
 """
 from collections.abc import Iterator, Mapping
 from typing import Any, NamedTuple
@@ -31,10 +32,11 @@ case rabbit:is_running() of
     Asked = Try(fun() -> ra:members([{Coordinator, Node} || Node <- Running], 5000) end, none),
     Coordinators = case Asked of {ok, Servers, _} -> [Node || {_, Node} <- Servers]; _ -> [] end,
     Has = fun(Node) -> is_pid(erpc:call(Node, erlang, whereis, [Coordinator], 2000)) end,
+    Lives = fun(Pid) -> is_pid(Pid) andalso erpc:call(node(Pid), erlang, is_process_alive, [Pid], 2000) end,
     Replicas = fun(Queue) ->
-      {resource, Host, queue, Name} = amqqueue:get_name(Queue),
-      Rows = rabbit_stream_queue:status(Host, Name),
-      [proplists:get_value(node, Row) || Row <- Rows, is_integer(proplists:get_value(offset, Row))]
+      #{name := Stream} = amqqueue:get_type_state(Queue),
+      {ok, Members} = Coordinator:members(Stream),
+      [Node || {Node, {Pid, _}} <- maps:to_list(Members), Try(fun() -> Lives(Pid) end, false)]
     end,
     Answering = fun(Queue) -> proplists:get_value(online, rabbit_amqqueue:info(Queue, [online])) end,
     Consumers = fun(Queue) ->

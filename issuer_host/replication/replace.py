@@ -48,7 +48,21 @@ NODE = os.path.join(HOME, "deploy", "node")
 ADD_MEMBER = """rabbit_quorum_queue:add_member(<<"{host}">>, Queue, '{broker}', 60000)"""
 DELETE_MEMBER = """rabbit_quorum_queue:delete_member(<<"{host}">>, Queue, '{broker}')"""
 ADD_REPLICA = """rabbit_stream_queue:add_replica(<<"{host}">>, Queue, '{broker}')"""
-DELETE_REPLICA = """rabbit_stream_queue:delete_replica(<<"{host}">>, Queue, '{broker}')"""
+# A replica that is deleted leaves its files, and one that is added over files of another history never starts: once the
+# coordinator of streams has it no more, they are deleted too.
+DELETE_REPLICA = """(fun() ->
+  {{ok, Found}} = rabbit_amqqueue:lookup(rabbit_misc:r(<<"{host}">>, queue, Queue)),
+  #{{name := Stream}} = amqqueue:get_type_state(Found),
+  ok = rabbit_stream_queue:delete_replica(<<"{host}">>, Queue, '{broker}'),
+  IsMember = fun() ->
+    {{ok, Members}} = rabbit_stream_coordinator:members(Stream),
+    maps:is_key('{broker}', Members)
+  end,
+  Waited = lists:dropwhile(fun(_) -> IsMember() andalso timer:sleep(200) =:= ok end, lists:seq(1, 50)),
+  false = Waited =:= [],
+  {{ok, Folder}} = erpc:call('{broker}', application, get_env, [osiris, data_dir]),
+  erpc:call('{broker}', file, del_dir_r, [filename:join(Folder, Stream)])
+end)()"""
 LOOK_SECONDS, BROKER_SECONDS, ALL_SECONDS = 2.0, 120.0, 1_800.0
 
 
@@ -187,7 +201,7 @@ class Replacing:
     def change(self, queues: Sequence[str], *calls: str) -> None:
         """Changes the members of queues. What comes back isn't believed: the next look has what is there."""
         host, broker = self.options.vhost, self.options.broker
-        each = ", ".join(call.format(host=host, broker=broker) for call in calls)
+        each = ", ".join(f"(catch {call.format(host=host, broker=broker)})" for call in calls)
         names = ", ".join(f'<<"{queue}">>' for queue in queues)
         self.control(self.options.by).run("eval", f"[[{each}] || Queue <- [{names}]].")
 

@@ -143,7 +143,9 @@ def of_copy(state: Replaced, group: Group) -> Optional[Does]:
     if group.kind == QUEUE:
         return Does.GROW_ANEW if is_listed else Does.GROW
     if group.kind == STREAM:
-        return Does.REPLICATE_ANEW if is_listed else Does.REPLICATE
+        # (what is made anew is deleted before: two others have to have it)
+        are_others = len(set(group.online) - {state.broker}) >= COPIES - 1
+        return Does.REPLICATE if not is_listed else Does.REPLICATE_ANEW if are_others else None
     # (it adds nodes that it doesn't list, and looks twice a minute: one that was away for less stays listed)
     return Does.COORDINATE_ANEW if is_listed else None
 
