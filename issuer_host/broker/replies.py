@@ -9,7 +9,7 @@ from issuer_host.broker.refusing_queues import RefusingQueues
 from issuer_host.broker.reply_mac import ReplyMacs
 from issuer_host.broker.unacknowledged import Delivered, Flight
 from issuer_host.facts.limited import LimitedTelling
-from issuer_host.facts.refusal import tell
+from issuer_host.facts.troubles import Level, say
 from issuer_host.host.event_loop import Loop
 from issuer_host.host.lines import Entry
 
@@ -56,7 +56,7 @@ class ReplySender:
         self.macs = macs
         self.figures = figures
         self.on_settled = on_settled
-        self.log = LimitedTelling(lambda text: tell(name, text))
+        self.log = LimitedTelling(lambda text: say(name, Level.WARNING, text))
         self.flight = Flight()
         self.deaf = RefusingQueues()
 

@@ -37,9 +37,10 @@ from issuer_host.broker.replies import NO_REPLY_QUEUE, NO_REQUEST, ReplySender
 from issuer_host.broker.reply_mac import ReplyMacs
 from issuer_host.broker.types import Callback, Channel, Delivery, Properties, Step
 from issuer_host.broker.unacknowledged import entry_of
-from issuer_host.facts.refusal import Refusal, tell
+from issuer_host.facts.refusal import Refusal
 from issuer_host.facts.service_words import ServiceWords
 from issuer_host.facts.statuses import Status
+from issuer_host.facts.troubles import Level, say
 from issuer_host.files.open_journals import REPLACED
 from issuer_host.host.command import StartOptions, serving_command
 from issuer_host.host.event_loop import new_loop
@@ -137,7 +138,7 @@ class BrokerBridge:
     def ready(self, channel: Channel) -> None:
         channel.basic_qos(prefetch_count=self.options.window)
         self.consumer = channel.basic_consume(topology.queue_of(self.options.partition), self.take)
-        tell(NAME, "connected")
+        say(NAME, Level.NOTICE, "connected")
         if self.is_second:
             self.readiness.tell()
         elif not self.readiness.is_told:
@@ -149,7 +150,8 @@ class BrokerBridge:
         if was_connected:
             self.figures.losses.inc()
         if self.consumer or str(reason) != self.told:
-            tell(NAME, f"{'the connection is lost' if self.consumer else 'no connection'}: {reason!r}")
+            said = "the connection is lost" if self.consumer else "no connection"
+            say(NAME, Level.WARNING, f"{said}: {reason!r}")
         self.consumer = ""
         self.told = str(reason)
         if was_connected:
@@ -196,7 +198,7 @@ class BrokerBridge:
         """Ends a bridge that waits if other files have the journals' names: a disk may be gone."""
         hosting = self.serving.hosting
         if not hosting.is_running and hosting.supervisor.files.are_others():
-            tell(NAME, f"the journals {self.options.journal} {REPLACED}")
+            say(NAME, Level.ERROR, f"the journals {self.options.journal} {REPLACED}")
             self.give_up(Status.REFUSED)
 
     def give_up(self, status: int) -> None:
@@ -225,5 +227,5 @@ def main(words: Sequence[str]) -> int:
     try:
         return BrokerBridge(options_of(words)).run()
     except Refusal as refusal:
-        tell(NAME, str(refusal))
+        say(NAME, Level.ERROR, str(refusal))
         return Status.REFUSED

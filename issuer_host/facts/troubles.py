@@ -1,8 +1,8 @@
-"""Troubles that last: each is one line of the log when it begins, with what to do, and one when it has ended.
+"""The lines of a service's log, each with a level; troubles that last are one when they begin, and one when they ended.
 
 A line has the form `NAME: LEVEL: EVENT: DO`. NAME is the service's, with its partition where it runs several; LEVEL is
 `error` where nobody is answered until a person acts, `warning` where something passes or is still whole, and `notice`
-for what has ended.
+for what has ended, and for what is as it should be.
 """
 import enum
 import time
@@ -19,6 +19,11 @@ class Level(enum.Enum):
     NOTICE = "notice"
 
 
+def say(name: str, level: Level, event: str) -> None:
+    """Tells of something that happens once, or of which others are told each time."""
+    tell(name, f"{level.value}: {event}")
+
+
 class Troubles:
     """The troubles of a service, by what happens."""
 
@@ -31,10 +36,10 @@ class Troubles:
         """An event happens, and it lasts: the first time since it ended it is told, with what to do."""
         if event not in self.since:
             self.since[event] = self.clock()
-            tell(self.name, f"{level.value}: {event}: {action}" if action else f"{level.value}: {event}")
+            say(self.name, level, f"{event}: {action}" if action else event)
 
     def ends(self, event: str, said: str) -> None:
         """An event has ended, if it had begun: that is told, and how long it lasted."""
         since = self.since.pop(event, None)
         if since is not None:
-            tell(self.name, f"{Level.NOTICE.value}: {said}, after {self.clock() - since:.0f} s")
+            say(self.name, Level.NOTICE, f"{said}, after {self.clock() - since:.0f} s")

@@ -4,8 +4,8 @@ from collections.abc import Callable
 
 from issuer_host.facts.answers import RECORDED, words_of
 from issuer_host.facts.limits import MAX_SHARDS
-from issuer_host.facts.refusal import Refusal, tell
-from issuer_host.facts.troubles import Troubles
+from issuer_host.facts.refusal import Refusal
+from issuer_host.facts.troubles import Level, Troubles, say
 from issuer_host.files.durable_lines import FollowedJournal
 from issuer_host.files.open_journals import Look, open_journals
 from issuer_host.files.run_mark import last_run_of, lock_mark
@@ -66,7 +66,7 @@ class SealWriter:
             self.not_before = self.clock() + AGAIN_SECONDS
             self.forget()
         except Refusal as fault:
-            tell(self.by, f"error: the journals aren't sealed any more until the next start: {fault}")
+            say(self.by, Level.ERROR, f"the journals aren't sealed any more until the next start: {fault}")
             self.close()
         else:
             self.troubles.ends(UNSEALED, "seals are written again")
@@ -125,7 +125,7 @@ class SealWriter:
         try:
             mark = lock_mark(self.name, creates=False)
         except OSError as fault:
-            tell(self.by, f"the end of the run isn't marked: {fault.strerror}")
+            say(self.by, Level.WARNING, f"the end of the run isn't marked: {fault.strerror}")
             return
         if mark is None:
             return
@@ -133,7 +133,7 @@ class SealWriter:
             if mark.run() != self.before:
                 mark.has_ended(sealed)
         except OSError as fault:
-            tell(self.by, f"the end of the run isn't marked: {fault.strerror}")
+            say(self.by, Level.WARNING, f"the end of the run isn't marked: {fault.strerror}")
         finally:
             # (while it is locked no other run begins)
             mark.close()

@@ -2,7 +2,7 @@
 import contextlib
 from collections.abc import Callable
 
-from issuer_host.facts.refusal import tell
+from issuer_host.facts.troubles import Level, say
 from issuer_host.files.card_records import CardRecords
 from issuer_host.host.event_loop import Loop
 
@@ -47,7 +47,7 @@ class RecordsReader:
         try:
             are_all, seconds = records.read_on(), 0.0
         except (OSError, ValueError) as fault:
-            tell(self.name, f"the journals can't be read for their commands: {fault}")
+            say(self.name, Level.WARNING, f"the journals can't be read for their commands: {fault}")
             are_all, seconds = False, FAULT_SECONDS
         if are_all and self.is_loaded:
             records.close()

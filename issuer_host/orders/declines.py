@@ -11,8 +11,8 @@ from typing import NamedTuple, Optional, Protocol
 
 from issuer_host.facts.answers import REFUSED, RefusalNumber, SET, kind_of
 from issuer_host.facts.limits import MAX_LINE_BYTES
-from issuer_host.facts.refusal import tell
 from issuer_host.facts.request_lines import DECIDE, SET_STATUS, objects_of, pan_of_line
+from issuer_host.facts.troubles import Level, say
 from issuer_host.files.card_records import Card
 from issuer_host.host.lines import Entry
 from issuer_host.orders.in_order import Ledger, Put, Steps, Work, restore
@@ -116,7 +116,7 @@ class Declining(Work):
         try:
             ledger.file.begin(begun)
         except OSError as fault:
-            tell(ledger.name, f"no decline can be noted: {fault.strerror}")
+            say(ledger.name, Level.WARNING, f"no decline can be noted: {fault.strerror}")
             return None
         return begun
 

@@ -14,7 +14,7 @@ from typing import NamedTuple, Optional, Union
 
 from issuer_host.facts.answers import RECORDED, kind_of
 from issuer_host.facts.masks import name_of_card
-from issuer_host.facts.refusal import tell
+from issuer_host.facts.troubles import Level, say
 from issuer_host.files.card_records import CardRecords
 from issuer_host.host.event_loop import Loop
 from issuer_host.host.line_host import LineHost
@@ -82,7 +82,11 @@ def restore(begun: Begun, ledger: Ledger) -> Steps:
     line = restoring_line(begun, ledger.records)
     answer = (yield Put(line, True)) if line else ""
     if line and kind_of(answer).word not in RECORDED:
-        tell(ledger.name, f"{name_of_card(*begun.card)} can't get its status {begun.before} back: {answer}")
+        say(
+            ledger.name,
+            Level.WARNING,
+            f"{name_of_card(*begun.card)} can't get its status {begun.before} back: {answer}",
+        )
         return
     ledger.file.end(begun.number, answer)
 

@@ -15,8 +15,9 @@ import os
 from collections.abc import Callable
 from typing import Any, NamedTuple, Optional
 
-from issuer_host.facts.refusal import Refusal, tell
+from issuer_host.facts.refusal import Refusal
 from issuer_host.facts.request_lines import SET_STATUS
+from issuer_host.facts.troubles import Level, say
 from issuer_host.files.card_records import Card, CardRecords, answer_of
 from issuer_host.files.folders import as_owner, folder_of, sync_folder
 from issuer_host.files.placement import put_in_place
@@ -94,7 +95,7 @@ class WorkFile:
             f"{self.path}: {why}. Stop the host, and restore the file from a copy. Without a copy look at the cards'"
             " statuses, and move the file away: orders that were done aren't known by their numbers then"
         )
-        tell(self.name, f"no order and no account's decline is done: {self.fault}")
+        say(self.name, Level.ERROR, f"no order and no account's decline is done: {self.fault}")
 
     def clear(self) -> None:
         self.close()
@@ -187,7 +188,11 @@ class WorkFile:
         try:
             self.append(said)
         except OSError as fault:
-            tell(self.name, f"{self.path} can't be written: {fault.strerror}; the journals say what it would")
+            say(
+                self.name,
+                Level.WARNING,
+                f"{self.path} can't be written: {fault.strerror}; the journals say what it would",
+            )
 
     def when_noted(self, action: Callable[[], object]) -> None:
         """Does something once what was noted is known wherever it may be needed: here it is."""

@@ -16,7 +16,7 @@ import struct
 from collections.abc import Callable
 from typing import Optional
 
-from issuer_host.facts.refusal import tell
+from issuer_host.facts.troubles import Level, say
 from issuer_host.host.event_loop import Loop
 from issuer_host.orders.order import Order, order_of
 from issuer_host.orders.texts import HOST, NO_ANSWER, NOT_DONE, ORDER, PROBE
@@ -77,7 +77,7 @@ class OrderSocket:
         try:
             self.listening = listening_at(self.path)
         except OSError as fault:
-            tell(self.name, f"no orders are taken: {self.path}: {fault.strerror}")
+            say(self.name, Level.WARNING, f"no orders are taken: {self.path}: {fault.strerror}")
             return
         self.loop.add_handler(self.listening.fileno(), self.accept, self.loop.READ)
 

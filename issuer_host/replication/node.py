@@ -37,9 +37,10 @@ import re
 from collections.abc import Sequence
 
 from issuer_host.facts.journals import shards_of_files
-from issuer_host.facts.refusal import Refusal, tell
+from issuer_host.facts.refusal import Refusal
 from issuer_host.facts.service_words import ServiceWords
 from issuer_host.facts.statuses import Status
+from issuer_host.facts.troubles import Level, say
 from issuer_host.replication import anew, cluster_keys, node_file, positions, rule_choice
 from issuer_host.start.held_configuration import shards_of
 from issuer_host.start.journal_checks import create_journals
@@ -113,5 +114,5 @@ def main(words: Sequence[str]) -> int:
     try:
         return run(options)
     except Refusal as refusal:
-        tell(NAME, str(refusal))
+        say(NAME, Level.ERROR, str(refusal))
         return Status.REFUSED

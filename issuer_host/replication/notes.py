@@ -16,7 +16,8 @@ from typing import Any, Protocol
 
 from issuer_host.facts.journals import MAX_RECORD_LINE
 from issuer_host.facts.limited import LimitedTelling
-from issuer_host.facts.refusal import Refusal, tell
+from issuer_host.facts.refusal import Refusal
+from issuer_host.facts.troubles import Level, say
 from issuer_host.files.placement import put_in_place
 from issuer_host.files.regular_files import open_regular
 from issuer_host.files.summed_lines import may_be_torn, said_of, summed
@@ -209,7 +210,7 @@ class NotedWork(WorkFile):
         self.open.clear()
         self.ended.clear()
         notes = self.stream.notes()
-        limited = LimitedTelling(lambda text: tell(self.name, text))
+        limited = LimitedTelling(lambda text: say(self.name, Level.WARNING, text))
         lines = notes.all()
         for place, line in enumerate(lines, notes.length() - len(lines)):
             try:

@@ -7,7 +7,7 @@ import os
 
 from issuer_host.facts.paths import RULE
 from issuer_host.facts.proof import is_proved
-from issuer_host.facts.refusal import tell
+from issuer_host.facts.troubles import Level, say
 from issuer_host.replication.node_file import NodeSettings
 from issuer_host.replication.standby_run import TransientFault
 from issuer_host.start.careful_start import is_proved_soon
@@ -35,13 +35,13 @@ def has_rule(node: NodeSettings) -> bool:
     It reports a program of which nothing is proved.
     """
     if not node.rule and not node.program and not is_proved_soon(RULE):
-        tell(NAME, NONE)
+        say(NAME, Level.ERROR, NONE)
         return False
     try:
         path = rule_path(node)
     except TransientFault as fault:
-        tell(NAME, str(fault))
+        say(NAME, Level.ERROR, str(fault))
         return False
     if not is_proved(path, name=RULE):
-        tell(NAME, f"{path} isn't the proved program: nothing is proved of what it decides")
+        say(NAME, Level.WARNING, f"{path} isn't the proved program: nothing is proved of what it decides")
     return True

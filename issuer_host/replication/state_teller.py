@@ -4,7 +4,7 @@ from typing import NamedTuple
 
 from issuer_host.broker.unacknowledged import Flight
 from issuer_host.commands.entry import without_cards
-from issuer_host.facts.refusal import tell
+from issuer_host.facts.troubles import Level, say
 from issuer_host.replication.rule_events import State
 from issuer_host.telling.figures import Figures
 from issuer_host.facts.limited import LimitedTelling
@@ -15,6 +15,8 @@ FOLLOWING = (State.WAITING.value, State.BEGINNING.value, State.SERVING.value)
 REASON = 200
 # In these states a partition is well; from then on each reason is told again.
 SETTLED = (State.WAITING.value, State.SERVING.value)
+# In this one nobody is served from here until a person acts.
+ERROR_STATES = {"stopped": Level.ERROR}
 # So many states with reasons are remembered.
 MOST_TOLD = 50
 
@@ -34,7 +36,7 @@ class StateTeller:
 
     def __init__(self, name: str, figures: Figures) -> None:
         self.name, self.figures = name, figures
-        self.limited = LimitedTelling(lambda text: tell(self.name, text))
+        self.limited = LimitedTelling(lambda text: say(self.name, Level.WARNING, text))
         self.state = self.why = ""
         # What was told since the partition was well.
         self.told: "set[str]" = set()
@@ -52,7 +54,7 @@ class StateTeller:
             self.told.clear()
         if said not in self.told:
             self.told.add(said)
-            tell(self.name, said)
+            say(self.name, ERROR_STATES.get(state, Level.WARNING if why else Level.NOTICE), said)
         self.state, self.why = state, why
 
     def has_told(self, reason: str) -> bool:

@@ -8,8 +8,8 @@ from typing import Any, Optional
 from issuer_host.facts.answers import DECISIONS, REFUSALS, REFUSED, kind_of
 from issuer_host.facts.journals import journals_of
 from issuer_host.facts.proof import ProgramIdentity
-from issuer_host.facts.refusal import tell
 from issuer_host.facts.statuses import KILLED
+from issuer_host.facts.troubles import Level, say
 from issuer_host.telling.figures_server import FiguresServer
 
 SECONDS = (0.002, 0.005, 0.01, 0.02, 0.05, 0.1, 0.2, 0.5, 1, 2, 5, 10, 30)
@@ -102,7 +102,7 @@ def kinds_at(port: int, name: str, more: "Optional[dict[str, tuple[str, str, str
     try:
         return Kinds(port, more or {})
     except (ImportError, OSError) as fault:
-        tell(name, f"no figures: {fault}")
+        say(name, Level.WARNING, f"no figures: {fault}")
         return None
 
 
@@ -201,4 +201,4 @@ class Figures:
             found = os.statvfs(os.path.dirname(self.journal) or ".")
             self.free.set(found.f_bavail * found.f_frsize)
         except OSError as fault:
-            tell(self.name, f"the journals' disk can't be measured: {fault.strerror}")
+            say(self.name, Level.WARNING, f"the journals' disk can't be measured: {fault.strerror}")

@@ -7,7 +7,7 @@ one ends.
 import os
 import socket
 
-from issuer_host.facts.refusal import tell
+from issuer_host.facts.troubles import Level, say
 
 # A start that goes on asks for so much more time at each look.
 MORE_SECONDS = 20
@@ -23,7 +23,7 @@ def notify(name: str, text: str) -> None:
         try:
             to.sendto(text.encode(), address)
         except OSError as fault:
-            tell(name, f"the service manager can't be told: {fault.strerror}")
+            say(name, Level.WARNING, f"the service manager can't be told: {fault.strerror}")
 
 
 class Readiness:

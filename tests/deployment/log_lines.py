@@ -1,18 +1,31 @@
 """What services say in their logs: troubles once at their beginning and once at their end, by turns too."""
 import contextlib
 import errno
+import glob
 import importlib.util
 import io
 import itertools
 import os
+import re
 import unittest.mock
 from typing import Any
 
 from checks import Tally, check_of
+from issuer_host.facts.paths import HOME
 from issuer_host.facts.troubles import Level, Troubles
 from issuer_host.files.audit import Audit
 from issuer_host.host.retry_policy import RetryPolicy
 from runs import new_folder
+
+
+# Where lines of services are written; and what there is a command, whose lines a person reads at once.
+FOLDERS = ("broker", "files", "orders", "replication", "telling")
+TO_PERSONS = {
+    *("orders/client.py", "orders/offline.py", "orders/units.py"),
+    *(f"replication/{name}.py" for name in ("anew", "order", "probe", "rejoin", "replace")),
+}
+# A line that `tell` writes by itself, or what imports it for that.
+BARE = re.compile(r"^from issuer_host.facts.refusal import .*\btell\b|(?<![\w.])tell\((?:NAME|name|self\.name)")
 
 
 def told(body: Any) -> "list[str]":
@@ -57,8 +70,10 @@ def two_reasons_by_turns_are_told_once(tally: Tally) -> None:
         teller.tell("reading")
         teller.tell("waiting")
         teller.tell("away", "(404) NOT_FOUND")
+        teller.tell("stopped", "the stream lost its end")
 
-    wanted = ["reading: no stream is bound", "away: (404) NOT_FOUND", "reading", "waiting", "away: (404) NOT_FOUND"]
+    wanted = ["warning: reading: no stream is bound", "warning: away: (404) NOT_FOUND", "notice: reading"]
+    wanted += ["notice: waiting", "warning: away: (404) NOT_FOUND", "error: stopped: the stream lost its end"]
     tally.expect(told(turns), [f"node: partition 1: {line}" for line in wanted], "the lines")
 
 
@@ -97,6 +112,25 @@ def a_log_that_is_not_written_is_told(tally: Tally) -> None:
         tally.holds(lines[1].startswith(f"bridge: notice: {path} is written again, after "), f"the last line: {lines}")
 
 
+def modules_of_services() -> "list[str]":
+    """Returns the modules by which a node or a bridge writes lines, but for those of commands that talk to a person."""
+    found = [os.path.join(HOME, "issuer_host", "commands", "bridge.py")]
+    for folder in FOLDERS:
+        paths = sorted(glob.glob(os.path.join(HOME, "issuer_host", folder, "*.py")))
+        found += [path for path in paths if os.path.relpath(path, os.path.join(HOME, "issuer_host")) not in TO_PERSONS]
+    return found
+
+
+def each_line_of_a_service_has_a_level(tally: Tally) -> None:
+    """No module of a node or a bridge writes a line without a level."""
+    modules = modules_of_services()
+    tally.holds(len(modules) > 50, f"only {len(modules)} modules")
+    for path in modules:
+        with open(path, encoding="utf-8") as text:
+            bare = [line.strip() for line in text if BARE.search(line)]
+        tally.expect(bare, [], f"{os.path.relpath(path, HOME)}: lines without a level")
+
+
 CHECKS = [
     check_of(body)._replace(may_be_empty=body is two_reasons_by_turns_are_told_once)
     for body in (
@@ -104,5 +138,6 @@ CHECKS = [
         two_reasons_by_turns_are_told_once,
         a_full_disk_is_known_by_answers,
         a_log_that_is_not_written_is_told,
+        each_line_of_a_service_has_a_level,
     )
 ]

@@ -33,7 +33,9 @@ from trials.bridges.private_broker import PrivateBroker, free_port
 
 NODE = os.path.join(HOME, "deploy/node")
 QUEUES = os.path.join(HOME, "deploy/queues")
-STATE = re.compile(r"^node: partition (\d+): (away|reading|waiting|beginning|serving|stopped)", re.MULTILINE)
+STATE = re.compile(
+    r"^node: partition (\d+): (?:error|warning|notice): (away|reading|waiting|beginning|serving|stopped)", re.MULTILINE
+)
 CARDS, SHARDS = 8, 2
 SECONDS = 60.0
 LOOK_SECONDS = 0.05

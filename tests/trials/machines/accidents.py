@@ -76,7 +76,7 @@ class Accident:
 
     def stop_line(self) -> str:
         """Returns the line by which the node stopped the partition; nothing if it has not."""
-        begin = f"node: partition {self.number}: {STOPPED}"
+        begin = f"node: partition {self.number}: error: {STOPPED}"
         for line in self.node.texts()[self.begun :].splitlines():
             if line.startswith(begin) and not line.endswith(ENDS):
                 return line

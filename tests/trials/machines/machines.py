@@ -2,6 +2,7 @@
 import collections
 import contextlib
 import os
+import re
 import random
 import shutil
 import signal
@@ -26,6 +27,8 @@ from trials.machines.nodes import ManagedNode, NODE as NODE_COMMAND
 PARTITIONS, CALLERS = 8, 1
 LOOK_SECONDS = 0.05
 SERVING, WAITING = "serving", "waiting"
+# What a node says that a partition is; its other lines are of troubles.
+STATES = ("away", "reading", WAITING, "beginning", SERVING, "stopped")
 BEGIN_SECONDS = 600.0
 # The disk of a machine's journals.
 DISK_BYTES = 64 << 20
@@ -338,9 +341,8 @@ class Machines:
 
 def state_of(text: str, partition: int) -> str:
     """Returns the last state that a node wrote of a partition."""
-    mark = f"node: partition {partition}: "
-    at = text.rfind(mark)
-    return text[at + len(mark) :].partition("\n")[0].partition(":")[0] if at >= 0 else ""
+    found = re.findall(rf"(?m)^node: partition {partition}: \w+: ({'|'.join(STATES)})\b", text)
+    return str(found[-1]) if found else ""
 
 
 def fill(path: str, piece: bytes) -> None:
