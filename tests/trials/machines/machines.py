@@ -9,6 +9,7 @@ import signal
 import subprocess
 import threading
 import time
+from collections.abc import Sequence
 from typing import Optional, Union
 
 import pika
@@ -52,6 +53,8 @@ class Machines:
         self.is_guest = cluster is not None
         self.program = program
         self.partitions = partitions
+        # Those of the cluster's partitions that these nodes have.
+        self.numbers: Sequence[int] = range(partitions)
         # Another program that decides than the nodes' own, as a wrong one; none if it is empty.
         self.rule = ""
         self.configurations = os.path.join(room, "configurations")
@@ -114,7 +117,7 @@ class Machines:
                 "orders": os.path.join(self.folder(machine), f"orders-{partition}"),
                 "last_run": self.last_run_of(machine, partition),
             }
-            for partition in range(self.partitions)
+            for partition in self.numbers
         ]
         found: dict[str, object] = {
             "machine": machine.name,
@@ -152,10 +155,10 @@ class Machines:
 
     def begin_journals(self, node: ManagedNode) -> None:
         """Creates a machine's journals as an operator does."""
-        for partition in range(self.partitions):
+        for partition in self.numbers:
             os.makedirs(os.path.dirname(self.journal_of(node.machine, partition)))
         node.describe(self.description_of(node.machine))
-        subprocess.run([NODE_COMMAND, "--begin", node.file], stdout=subprocess.DEVNULL, check=True)
+        subprocess.run([*node.command[:-1], "--begin", node.file], stdout=subprocess.DEVNULL, check=True)
 
     def delete_queues(self) -> None:
         """Deletes the queues and the streams of another trial."""
@@ -324,7 +327,7 @@ class Machines:
             lambda: all(
                 state_of(node.texts(), partition) in (SERVING, WAITING)
                 for node in self.nodes
-                for partition in range(self.partitions)
+                for partition in self.numbers
             ),
             BEGIN_SECONDS,
             f"all nodes are ready, see {self.room}/m*/node.log",
@@ -333,7 +336,7 @@ class Machines:
     def wait_until_served(self) -> None:
         """Waits until each partition is served somewhere."""
         wait_for(
-            lambda: all(self.serving(partition) for partition in range(self.partitions)),
+            lambda: all(self.serving(partition) for partition in self.numbers),
             BEGIN_SECONDS,
             f"all partitions are served, see {self.room}/m*/node.log",
         )
@@ -341,7 +344,8 @@ class Machines:
 
 def state_of(text: str, partition: int) -> str:
     """Returns the last state that a node wrote of a partition."""
-    found = re.findall(rf"(?m)^node: partition {partition}: \w+: ({'|'.join(STATES)})\b", text)
+    # (nodes of versions before, beside which these are measured, give a line no level)
+    found = re.findall(rf"(?m)^node: partition {partition}: (?:\w+: )?({'|'.join(STATES)})\b", text)
     return str(found[-1]) if found else ""
 
 
