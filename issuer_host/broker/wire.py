@@ -2,8 +2,10 @@
 
 `pika` decodes all headers of a message before anybody sees it, and closes the connection at one that it doesn't like:
 the broker would deliver that message again, for ever. Nothing here uses a header but the offset of a stream's message,
-so no other is decoded. A body is kept in memory only as far as a request line, or a stream's message, can be long.
+so no other is decoded. A body is kept in memory only as far as a request line, or a stream's message, can be long. Its
+lines for debugging are left out.
 """
+import logging
 import struct
 from typing import Any, Optional, Union
 
@@ -166,3 +168,15 @@ def keep_short_bodies(channel: Any, kept: int = KEPT) -> None:
     """Has a channel keep the beginnings of bodies alone. (`pika` has no other place for it.)"""
     if hasattr(channel, "_content_assembler"):
         channel._content_assembler = ShortBodies(kept)
+
+
+def leave_debugging_out() -> None:
+    """Has `pika` prepare no lines for debugging, some forty a request, that nobody reads."""
+
+    def says_nothing(*_: object, **__: object) -> None:
+        pass
+
+    for name in list(logging.root.manager.loggerDict):
+        logger = logging.getLogger(name)
+        if name.startswith(f"{pika.__name__}.") and not logger.isEnabledFor(logging.DEBUG):
+            vars(logger)["debug"] = says_nothing

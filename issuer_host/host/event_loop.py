@@ -33,6 +33,14 @@ class Loop(Protocol):
         ...
 
 
+def call_soon(loop: Loop, callback: Action) -> None:
+    """Has the loop call back once it has done what it is at.
+
+    For the loop's own thread: another one has to wake the loop, which takes two calls of the system.
+    """
+    loop.call_later(0, callback)
+
+
 def new_loop() -> Loop:
     """Returns a loop of `pika`."""
     from pika.adapters.select_connection import IOLoop

@@ -42,14 +42,18 @@ class Shard:
 
     def read_on(self, end: Optional[int] = None) -> None:
         """Reads the next records, so that there are so many, or to the journal's end."""
-        with open(self.path, "rb") as opened:
+        # (a file object would take as many calls of the system again)
+        opened = os.open(self.path, os.O_RDONLY | os.O_CLOEXEC)
+        try:
             while end is None or self.length() < end:
-                lines = os.pread(opened.fileno(), PIECE, self.at).split(b"\n")[:-1]
+                lines = os.pread(opened, PIECE, self.at).split(b"\n")[:-1]
                 taken = lines if end is None else lines[: end - self.length()]
                 if not taken:
                     break
                 self.beyond.extend(line.decode("latin-1") for line in taken)
                 self.at += sum(len(line) + 1 for line in taken)
+        finally:
+            os.close(opened)
 
     def text(self, place: int) -> str:
         return self.beyond[place - self.count]

@@ -2,11 +2,11 @@
 from typing import Optional
 
 from issuer_host.facts.answers import RECORDED
-from issuer_host.host.event_loop import Action, Loop
+from issuer_host.host.event_loop import Action, Loop, call_soon
 from issuer_host.replication.journal_files import JournalFiles
 from issuer_host.replication.messages import Place
 from issuer_host.replication.node_stops import StepGuard
-from issuer_host.replication.rule_turns import RuleTurns
+from issuer_host.replication.rule_turns import Answer, RuleTurns
 from issuer_host.replication.stream_reader import StreamReader
 
 
@@ -33,25 +33,30 @@ class RecordedAnswers:
     def pass_soon(self) -> None:
         """Has the answers taken, unless records are on their way: those of a turn there and back are written together.
 
-        So a busy partition has few messages, and one that has one request in hand waits for nothing.
+        So a busy partition has few messages, and one that has one request in hand waits for nothing. What is on its way
+        takes them with it when it comes back.
         """
         if self.answers and not self.is_passing and not self.journals.uncounted():
             self.is_passing = True
-            self.loop.add_callback_threadsafe(lambda: self.guard.take(self.write_records))
+            call_soon(self.loop, lambda: self.guard.take(self.write_records))
 
     def write_records(self) -> None:
-        """Writes the records that the answers say are durable, and lets the answers wait for them."""
+        """Has the records written that the answers say are durable, and lets the answers wait for them."""
         self.is_passing = False
-        answers, self.answers = self.answers, []
+        self.rule.recorded(*self.taken())
+
+    def taken(self) -> "list[Answer]":
+        """Takes the answers that there are, and reads the records that they say are durable."""
+        answers = [(take, place_of(text)) for text, take in self.answers]
+        self.answers.clear()
         ends: "dict[int, int]" = {}
-        for text, _ in answers:
-            place = place_of(text)
+        for _, place in answers:
             if place is not None:
                 ends[place[0]] = max(ends.get(place[0], 0), place[1] + 1)
         self.journals.recorded(ends)
         if self.journals.uncounted():
             self.reader.wrote()
-        self.rule.recorded(*((take, place_of(text)) for text, take in answers))
+        return answers
 
 
 def place_of(answer: str) -> Optional[Place]:

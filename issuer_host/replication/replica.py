@@ -18,7 +18,7 @@ from issuer_host.replication.recorded_answers import RecordedAnswers
 from issuer_host.replication.rule_choice import rule_path
 from issuer_host.replication.rule_events import Beginning, State
 from issuer_host.replication.rule_program import RuleProgram
-from issuer_host.replication.rule_turns import RuleTurns
+from issuer_host.replication.rule_turns import Answer, RuleTurns
 from issuer_host.replication.standby_run import StandbyRun
 from issuer_host.replication.state_teller import ReplicaState
 from issuer_host.replication.stream import Place as StreamPlace, Stream
@@ -81,6 +81,10 @@ class Replica:
     def disconnected(self) -> None:
         self.stream.lost()
         self.rule.disconnected()
+
+    def answered(self) -> "list[Answer]":
+        """Returns what the host has answered, whose records were read."""
+        return self.answers.taken()
 
     def was_read(self) -> None:
         """The rule has taken a message."""

@@ -5,7 +5,7 @@ many records of each journal the rule knows, and which answers wait.
 """
 import collections
 import uuid
-from collections.abc import Callable, Iterator
+from collections.abc import Callable, Iterator, Sequence
 from typing import Optional, Protocol
 
 from issuer_host.host.event_loop import Action as Callback
@@ -40,6 +40,9 @@ from issuer_host.replication.rule_events import (
     TruncateJournal,
 )
 from issuer_host.replication.standby_run import TransientFault
+
+# An answer of the host: what sends its reply, and the place of the record that it names, if it names one.
+Answer = tuple[Callback, Optional[Place]]
 
 
 class RuleJournals(Protocol):
@@ -128,9 +131,12 @@ class RuleTurns:
             self.state = State.BEGINNING
             self.tell(Called(self.names()))
 
-    def read(self, text: str) -> None:
-        """Takes the stream's next message that a node wrote."""
-        self.tell(MessageRead(text))
+    def read(self, text: str, *answers: Answer) -> None:
+        """Takes the stream's next message that a node wrote, and what the host has recorded and answered by now.
+
+        A barrier comes without answers: at the turn after it the host may be gone.
+        """
+        self.tell(MessageRead(text), *self.recordings(answers))
 
     def host_loaded(self) -> None:
         """A host has loaded the journals, which were read to their ends, and has no line yet."""
@@ -143,17 +149,9 @@ class RuleTurns:
             self.waiting.clear()
             self.tell(HostEnded())
 
-    def recorded(self, *answers: "tuple[Callback, Optional[Place]]") -> None:
+    def recorded(self, *answers: Answer) -> None:
         """The host has recorded what was read of its journals, and answered: each waits until its record counts."""
-        if self.state is not State.SERVING:
-            return
-        news = list(self.news())
-        events: "list[Event]" = [*news, Told()] if news else []
-        for reply, place in answers:
-            self.answers += 1
-            self.waiting[self.answers] = reply
-            events.append(Answered(self.answers, place))
-        self.tell(*events)
+        self.tell(*self.recordings(answers))
 
     def write_again(self) -> None:
         """What was written doesn't come back."""
@@ -170,6 +168,18 @@ class RuleTurns:
         self.rule.end()
 
     # What is told and carried out
+
+    def recordings(self, answers: "Sequence[Answer]") -> "Iterator[Event]":
+        """What the host has recorded that the rule doesn't know, and its answers."""
+        if self.state is not State.SERVING:
+            return
+        news = list(self.news())
+        if news:
+            yield from (*news, Told())
+        for reply, place in answers:
+            self.answers += 1
+            self.waiting[self.answers] = reply
+            yield Answered(self.answers, place)
 
     def news(self) -> "Iterator[Event]":
         """What the journals have beyond what the rule knows."""

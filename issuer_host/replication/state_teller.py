@@ -46,9 +46,9 @@ class StateTeller:
 
     def tell(self, state: str, why: str = "") -> None:
         """Tells a state or a reason that is new. Two by turns are told once each, until the partition is well again."""
-        self.figures.following.set(state in FOLLOWING)
         if state == self.state and (not why or why == self.why):
             return
+        self.figures.following.set(state in FOLLOWING)
         said = f"{state}: {why}" if why else state
         if state in SETTLED and state != self.state or len(self.told) == MOST_TOLD:
             self.told.clear()

@@ -13,7 +13,7 @@ from typing import NamedTuple, Optional, Protocol
 from issuer_host.replication.message_mac import MessageMacs
 from issuer_host.replication.messages import Barrier, LOGS, MessageFault, Record
 from issuer_host.replication.rule_events import Beginning, PartitionRule
-from issuer_host.replication.rule_turns import RuleTurns
+from issuer_host.replication.rule_turns import Answer as HostAnswer, RuleTurns
 from machines.bridge_model import BridgeModel
 from machines.message_texts import Message, Records, parse, text_of
 from machines.rule_model import Answer, Count
@@ -159,13 +159,13 @@ class Node:
 
     # What happens to it
 
-    def read(self) -> None:
-        """Reads the stream's next message. One that no node wrote isn't told."""
+    def read(self, *answers: Answer) -> None:
+        """Reads the stream's next message. One that no node wrote isn't told. Answers are told in the same turn."""
         message = self.world.opened(self.world.stream[self.position])
         self.position += 1
         if message is not None:
             self.count.take(message)
-            self.turns.read(text_of(message))
+            self.turns.read(text_of(message), *map(self.as_told, answers))
             said = self.turns.barrier, self.said
             if said != (self.count.barrier, self.count.records):
                 raise Broken(f"the rule says that {said} count, where {self.count.barrier}, {self.count.records} do")
@@ -183,11 +183,26 @@ class Node:
 
     def ask(self, counter: str) -> None:
         """Puts a request of a card's counter to the host: it has one record for it, whoever asks."""
+        self.answer(self.decided(counter))
+
+    def decided(self, counter: str) -> Answer:
         record = self.find(counter) or self.decide(counter)
-        self.answer(Answer(counter, record.text, (record.shard, record.place)))
+        return Answer(counter, record.text, (record.shard, record.place))
+
+    def ask_and_read(self, counter: str) -> None:
+        """The same, and its answer is told with the records that the stream brings."""
+        self.read(self.decided(counter))
+
+    def has_records_to_read(self) -> bool:
+        """Whether the stream's next message has records."""
+        following = self.world.stream[self.position :][:1]
+        return isinstance(self.world.opened(following[0]) if following else None, Records)
 
     def answer(self, answer: Answer) -> None:
-        self.turns.recorded((functools.partial(self.reply, answer), answer.place))
+        self.turns.recorded(self.as_told(answer))
+
+    def as_told(self, answer: Answer) -> HostAnswer:
+        return functools.partial(self.reply, answer), answer.place
 
     def find(self, counter: str) -> Optional[Record]:
         of_counter = (record for records in self.held for record in records if record.text.startswith(f"{counter}:"))
@@ -322,6 +337,8 @@ class World:
                 yield Step("call", number)
             if node.is_serving:
                 yield Step("ask", number, COUNTERS[0])
+            if node.is_serving and node.has_records_to_read():
+                yield Step("ask_and_read", number, COUNTERS[0])
 
     def do(self, step: Step) -> None:
         node = self.nodes[step.machine]
@@ -332,6 +349,7 @@ class World:
             "lose": node.written.clear,
             "call": node.call,
             "ask": lambda: node.ask(step.counter),
+            "ask_and_read": lambda: node.ask_and_read(step.counter),
             "ask_of_none": node.ask_of_none,
             "crash": lambda: node.crash(step.counter or COUNTERS[0]),
             "keep": node.keep,
