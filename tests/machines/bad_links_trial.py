@@ -7,6 +7,7 @@ from trials.bridges.cards import distinct_lines
 from trials.bridges.farm import CARDS
 from trials.machines.chaos import Round, ask_in_rounds
 from trials.machines.history import check_equal
+from trials.machines.stalls import Stalls
 
 EVENTS = ("deaf", "mute", "lossy", "slow", "hung", "alarm", "rolling")
 LINES, SEED = 100, 6
@@ -17,7 +18,8 @@ def bad_links(trial: ReplacingTrial) -> None:
     machines, tally = trial.machines, trial.tally
     lines = distinct_lines(CARDS, LINES * len(EVENTS))
     rounds = [Round(event, lines[LINES * number :][:LINES]) for number, event in enumerate(EVENTS)]
-    asked = ask_in_rounds(machines, rounds, random.Random(SEED))
+    with Stalls(machines) as stalls:
+        asked = ask_in_rounds(machines, rounds, random.Random(SEED), stalls)
     for line in lines:
         replies = {reply_of(answer) for answer in asked.answers[line]}
         tally.check(len(replies) == 1 and None not in replies, f"a request has the replies {replies}")

@@ -26,6 +26,8 @@ COMMANDS = 40
 PAUSE_SECONDS = 0.05
 # An order has to be done in this time, whatever ends meanwhile.
 ORDER_SECONDS = 120.0
+# So long the last one may take, once nothing ends any more.
+LAST_SECONDS = 180.0
 
 
 def some_declined(lines: Sequence[str], dice: random.Random) -> list[str]:
@@ -61,14 +63,19 @@ class Orders:
         self.is_over = threading.Event()
         self.done: list[Ordered] = []
         self.undone: list[str] = []
+        # What is being ordered, and what came of it so far.
+        self.waiting = ""
         self.thread = threading.Thread(target=self.give, daemon=True)
 
     def begin(self) -> None:
         self.thread.start()
 
-    def end(self) -> None:
+    def end(self, seconds: float = LAST_SECONDS) -> None:
+        """Gives no more orders, and waits so long for the last one: nothing happens to anybody any more."""
         self.is_over.set()
-        self.thread.join()
+        self.thread.join(seconds)
+        if self.thread.is_alive():
+            self.undone.append(self.waiting)
 
     def give(self) -> None:
         queued = dict.fromkeys(self.pans, 0)
@@ -80,7 +87,7 @@ class Orders:
                 line = f"{QUEUE} {pan} 00 04da{len(self.done):04x}"
             answer = self.answer_of(self.partition(pan), line)
             if answer is None:
-                self.undone.append(line)
+                self.undone.append(self.waiting)
                 return
             self.done.append(Ordered(self.partition(pan), line, answer))
 
@@ -90,12 +97,13 @@ class Orders:
     def answer_of(self, partition: int, line: str) -> Optional[str]:
         """Gives an order until it is done."""
         number = f"{os.urandom(8).hex()}/1"
-        end = time.monotonic() + self.seconds
+        end, reply = time.monotonic() + self.seconds, ""
         while time.monotonic() < end:
+            self.waiting = f"partition {partition}, {line}: {reply or 'no reply'}"
             try:
                 reply = client.SocketTaker(self.farm.sockets(partition)).reply_of(number, line)
-            except Refusal:
-                reply = ""
+            except Refusal as refusal:
+                reply = str(refusal)
             word, _, answer = reply.partition(" ")
             if word in (DONE, BEFORE):
                 return answer

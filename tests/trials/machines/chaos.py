@@ -26,8 +26,8 @@ to a machine that serves a partition:
 
 Where a node stops a partition over its files, they are put right as OPERATIONS says: by copies of another's journals.
 
---events has these happen alone, in their order: `events.py` has their names. Where nobody is answered for a minute and
-a half, it says where the run stands.
+--events has these happen alone, in their order: `events.py` has their names. Where nothing moves for a minute and a
+half, it says what it waits for, and what that lacks; with --loud it says each wait of its end where that begins.
 
 At the end:
 
@@ -68,6 +68,7 @@ from trials.machines import network
 if TYPE_CHECKING:
     # (it needs pika, which may be absent)
     from trials.machines.machines import Machines
+    from trials.machines.stalls import Stalls
 
 REQUESTS, SHORT_REQUESTS = 20_000, 1_000
 REQUESTS_OF_ROUND = 1_000
@@ -181,12 +182,11 @@ class Silences:
         self.last[partition] = now
 
 
-def ask_in_rounds(machines: "Machines", rounds: Sequence[Round], dice: random.Random) -> Asked:
+def ask_in_rounds(machines: "Machines", rounds: Sequence[Round], dice: random.Random, stalls: "Stalls") -> Asked:
     """Asks all messages, with an event in each round."""
     from issuer_host.broker.publisher import PublishedRequest
     from trials.machines.asker import PacedAsker
     from trials.machines.events import happen
-    from trials.machines.stalls import Stalls
 
     answers: dict[str, list[str]] = collections.defaultdict(list)
     found: dict[str, list[float]] = collections.defaultdict(list)
@@ -199,11 +199,10 @@ def ask_in_rounds(machines: "Machines", rounds: Sequence[Round], dice: random.Ra
 
     files = machines.publisher_files()
     asker = PacedAsker(machines.partitions, files, ANSWER_SECONDS, answered)
-    stalls = Stalls(machines, lambda: len(asker.asked))
-    with asker, stalls:
+    with asker:
         for one in rounds:
             silences.begin()
-            stalls.begins(one.event)
+            stalls.begins(one.event, lambda: f"{len(asker.asked)} requests wait")
             happening = threading.Timer(dice.uniform(0.5, 3.0), happen, (machines, one.event, dice))
             if one.event:
                 happening.start()
@@ -235,15 +234,19 @@ def check_ends(tally: Tally, machines: "Machines") -> None:
     tally.check(not machines.faults, f"these didn't happen: {machines.faults}")
 
 
-def check_redundancy(tally: Tally, machines: "Machines") -> None:
+def check_redundancy(tally: Tally, machines: "Machines", stalls: "Stalls") -> None:
     """All that has copies has three of them again, by what the first machine's broker sees."""
     from trials.machines.brokers import comes
 
+    lost: "list[str]" = []
+
+    def is_whole() -> bool:
+        lost[:] = machines.lost()
+        return not lost
+
+    stalls.waits("it is three of three", lambda: "; ".join(lost))
     machines.network.heal()
-    tally.check(
-        comes(lambda: not machines.lost(), WHOLE_SECONDS),
-        f"in {WHOLE_SECONDS} s it isn't three of three: {machines.lost()}",
-    )
+    tally.check(comes(is_whole, WHOLE_SECONDS), f"in {WHOLE_SECONDS} s it isn't three of three: {lost}")
 
 
 def report(machines: "Machines", asked: Asked, seconds: float) -> None:
@@ -260,6 +263,7 @@ def report(machines: "Machines", asked: Asked, seconds: float) -> None:
 
 def play(options: Options, machines: "Machines", tally: Tally) -> None:
     from trials.machines.history import check_equal, check_prefixes
+    from trials.machines.stalls import Stalls
 
     dice = random.Random(options.seed)
     lines = distinct_lines(CARDS, options.requests)
@@ -271,15 +275,18 @@ def play(options: Options, machines: "Machines", tally: Tally) -> None:
     rounds = rounds_of(messages, events_of(options, machines.left_out, dice), dice)
     orders = Orders(machines, sorted({pan_of_line(line) for line in lines}), options.seed, ANSWER_SECONDS)
     began = time.monotonic()
-    orders.begin()
-    asked = ask_in_rounds(machines, rounds, dice)
-    orders.end()
-    seconds = time.monotonic() - began
-    check_redundancy(tally, machines)
-    machines.kill_nodes()
-    check_prefixes(tally, machines)
-    machines.start_nodes()
-    check_equal(tally, machines)
+    with Stalls(machines) as stalls:
+        orders.begin()
+        asked = ask_in_rounds(machines, rounds, dice, stalls)
+        stalls.waits("the last order is done", lambda: orders.waiting)
+        orders.end()
+        seconds = time.monotonic() - began
+        check_redundancy(tally, machines, stalls)
+        machines.kill_nodes()
+        stalls.waits("all streams are read")
+        check_prefixes(tally, machines)
+        machines.start_nodes()
+        check_equal(tally, machines, waits=stalls.waits)
     machines.end_nodes()
     check_all(tally, machines, lines, by_request(asked.answers))
     check_work(tally, machines, messages, orders)

@@ -3,7 +3,7 @@ import contextlib
 import os
 import time
 import uuid
-from collections.abc import Sequence
+from collections.abc import Callable, Sequence
 from typing import Any
 
 import pika
@@ -155,9 +155,19 @@ def common_length(some: Sequence[str], others: Sequence[str]) -> int:
     return min(len(some), len(others))
 
 
-def check_equal(tally: Tally, machines: Machines, seconds: float = SETTLE_SECONDS) -> None:
+def says_nothing(_: str) -> None:
+    """What a wait is for isn't told to anybody."""
+
+
+def check_equal(
+    tally: Tally,
+    machines: Machines,
+    seconds: float = SETTLE_SECONDS,
+    waits: Callable[[str], object] = says_nothing,
+) -> None:
     """All machines' journals come to what counts, and no reader comes to another history."""
     for partition in range(machines.partitions):
+        waits(f"the journals of partition {partition} are what counts, on all machines")
         history = history_of(messages_of(machines, partition))
         for number, machine in enumerate(machines.network.machines):
             is_equal = comes(lambda: journals_of(machines, number, partition, history) == history, seconds)

@@ -1,4 +1,4 @@
-"""Says where a trial stands while nobody is answered for long: what happens, what waits, and what each node does."""
+"""Says where a trial stands while nothing moves for long: what it does, what that lacks, and what each node does."""
 import threading
 import time
 from collections.abc import Callable
@@ -8,13 +8,17 @@ from trials.machines.machines import Machines, state_of
 LOOK_SECONDS, LONG_SECONDS = 5.0, 90.0
 
 
+def nothing() -> str:
+    return ""
+
+
 class Stalls:
     """Looks at a trial beside it, and prints where it stands each time that it has stood still for so long."""
 
-    def __init__(self, machines: Machines, waiting: Callable[[], int]) -> None:
-        """`waiting` returns how many requests have no answer."""
-        self.machines, self.waiting = machines, waiting
-        self.event = ""
+    def __init__(self, machines: Machines, long: float = LONG_SECONDS) -> None:
+        self.machines, self.long = machines, long
+        # What the trial does, and what says what that lacks.
+        self.what, self.lacks = "", nothing
         self.moved = time.monotonic()
         self.is_over = threading.Event()
         self.thread = threading.Thread(target=self.look, daemon=True)
@@ -27,26 +31,33 @@ class Stalls:
         self.is_over.set()
         self.thread.join()
 
-    def begins(self, event: str) -> None:
-        """An event begins, or the last one has ended."""
-        self.event = event
+    def begins(self, what: str, lacks: Callable[[], str] = nothing) -> None:
+        """Something begins, and what was before has ended."""
+        self.what, self.lacks = what, lacks
         self.move()
 
+    def waits(self, what: str, lacks: Callable[[], str] = nothing) -> None:
+        """The trial waits for something from here on."""
+        if self.machines.is_loud:
+            print(f"{time.strftime('%H:%M:%S')} waits until {what}", flush=True)
+        self.begins(f"the trial waits until {what}", lacks)
+
     def move(self) -> None:
-        """Somebody was answered."""
+        """Somebody was answered, or something else was done."""
         self.moved = time.monotonic()
 
     def look(self) -> None:
-        while not self.is_over.wait(LOOK_SECONDS):
+        while not self.is_over.wait(min(LOOK_SECONDS, self.long)):
             still = time.monotonic() - self.moved
-            if still > LONG_SECONDS:
+            if still > self.long:
                 print(self.text(still), flush=True)
                 self.move()
 
     def text(self, still: float) -> str:
         """Returns where the trial stands."""
+        lacks = self.lacks()
+        lines = [f"nothing moved for {still:.0f} s: {self.what or 'no event'}{': ' if lacks else ''}{lacks}"]
         texts = {node.machine.name: node.texts() if node.is_on else "" for node in self.machines.nodes}
-        lines = [f"nobody was answered for {still:.0f} s: {self.event or 'no event'}, {self.waiting()} requests wait"]
         for number in range(self.machines.partitions):
             states = (f"{name} {state_of(text, number) or 'off'}" for name, text in texts.items())
             lines.append(f"  partition {number}: {', '.join(states)}")
