@@ -22,6 +22,7 @@ WITHOUT_PROGRAM = (
     "tests/pages/figures",
     "tests/pages/site",
     "tests/pages/claims",
+    "bench/measured --check",
     "tests/pages/runbook --without-program",
     "tests/pages/changes --without-program",
     "tests/pages/pipes --without-program",

@@ -17,7 +17,7 @@ PROOF = re.compile(r"rt: (?P<name>\w+) (proved|is kept: .*)")
 TESTS = re.compile(r"rt: (?P<name>\w+): its tests (are proved|are kept: .*)")
 EDITS = re.compile(r"rt: (?P<name>\w+): trying its must-fail edits \(\d+\)")
 TEST = re.compile(r"#\[test\]")
-# Processor seconds of a crate's tests and of an edit: the means of the table in docs/MEASURED.md.
+# Processor seconds of a crate's tests and of an edit: the means of bench/results/gate.csv.
 TESTS_SECONDS = 250.0
 EDIT_SECONDS = 32.0
 # Progress is told so often at most, in seconds, and an estimate is given from so many on.
