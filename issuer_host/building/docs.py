@@ -13,7 +13,16 @@ from issuer_host.launcher.messages import complain, stop, tell
 
 # What is copied, with its path: the pages, and what they show or link to.
 COPIED = (
-    *("*.md", "LICENSE", "NOTICE", "docs/*.md", "docs/decisions/*.md", "docs/plots/*", "deploy/*.md"),
+    *(
+        "*.md",
+        "LICENSE",
+        "NOTICE",
+        "docs/*.md",
+        "docs/faults.txt",
+        "docs/decisions/*.md",
+        "docs/plots/*",
+        "deploy/*.md",
+    ),
     *("tests/*.md", "tests/*/*.md", "crates/*.md", "crates/*/*.md"),
 )
 SITE = "docs/site"

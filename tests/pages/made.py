@@ -1,10 +1,11 @@
-"""The pages that are made of the tree: all definitions of the contract, and the law clause by clause.
+"""The pages that are made of the tree: all definitions of the contract, the law clause by clause, and faults.
 
 Nothing of them is committed. `tests/pages/make` writes them, and `./issuer docs` has it do so.
 """
 import re
-from collections.abc import Callable, Iterator
+from collections.abc import Callable, Iterable, Iterator
 
+from pages import faults
 from pages.reached import CALL, DEVICES, DEVICES_CHAPTER, TOP, Contract, Root, contract, order_of
 from sources.specs import Definition, Key, Module
 
@@ -78,8 +79,46 @@ def clause(of_call: Contract, root: Root) -> list[str]:
     return lines
 
 
+def faults_by_clause() -> str:
+    """Each fault that hosts of this kind have had, with what rules it out here."""
+    lines = ["# Faults, and what rules each out", "", MADE_BY, "", *faults_by_subject(), ""]
+    for section in faults.sections():
+        lines += [f"## {section.title}", ""]
+        lines += [of_docs(section.note), ""] if section.note else []
+        for fault in section.faults:
+            lines += [f"- **{fault.title}.**", f"  - {of_docs(fault.clause)}"]
+            lines += [f"  - {text}" for text in shown(fault)]
+        lines += [""]
+    return "\n".join(lines)
+
+
+def faults_by_subject() -> Iterator[str]:
+    """A table of how many faults, edits and tests each subject has."""
+    yield from ("| subject | faults | edits named | tests named |", "|---|---|---|---|")
+    for title, _, some in faults.sections():
+        edits, tests = sum(len(it.edits) for it in some), sum(len(it.tests) for it in some)
+        yield f"| {title} | {len(some)} | {edits} | {tests} |"
+
+
+def of_docs(text: str) -> str:
+    """A text of a page in docs, with its links as a page one folder below has them."""
+    return re.sub(r"\]\((?=[A-Z])", "](../", text)
+
+
+def shown(fault: faults.Fault) -> Iterable[str]:
+    """The edits and tests of a fault, in a line."""
+    texts = []
+    for name, aside in (("Edits", False), ("Edits kept aside", True)):
+        some = [f"{it.crate} `{it.name}`" for it in fault.edits if it.is_aside is aside]
+        texts += [f"{name}: {', '.join(some)}."] if some else []
+    tests = [f"`{name}`{f' of {crate}' if crate else ''}" for name, crate in fault.tests]
+    texts += [f"Tests: {', '.join(tests)}."] if tests else []
+    return [" ".join(texts)] if texts else []
+
+
 # The file of each page, and what makes it.
 PAGES: dict[str, Callable[[], str]] = {
     "definitions.md": definitions,
     "law.md": law,
+    "faults.md": faults_by_clause,
 }

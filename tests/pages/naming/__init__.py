@@ -2,5 +2,5 @@
 
 - `tree`: what the tree has: the words of each crate and of the scripts, options, crates, edits
 - `pages`: a page, span by span and block by block
-- `lists`: the items of docs/WHAT-GOES-WRONG.md, the reading lists of docs/DEFINITIONS.md, CHANGELOG.md beside VERSION
+- `lists`: the faults of docs/faults.txt, the reading lists of docs/DEFINITIONS.md, CHANGELOG.md beside VERSION
 """

@@ -23,20 +23,18 @@ ROW = re.compile(r"\|(.*)\| (\w+), (\w+) \|")
 
 
 def faults_name_edits_and_tests(tally: Tally) -> None:
-    """Each item of the page of faults has its form, and its edits and tests exist; each edit of the tree is named."""
-    items, bad = faults.faults_of(faults.page_text())
-    for line in bad:
-        tally.fail(f"{faults.PAGE}:{line}: the item isn't in the form that tests/pages/faults.py states")
+    """Each fault has its form, and its edits and tests exist; each edit of the tree is named."""
     named = set()
-    for fault in items:
+    sections = faults.sections()
+    for fault in (fault for section in sections for fault in section.faults):
         for edit in fault.edits:
             named.add(edit.path)
-            tally.holds(found(edit.path), f"{faults.PAGE}:{fault.line}: there is no {edit.path}")
+            tally.holds(found(edit.path), f"{faults.DATA}:{fault.line}: there is no {edit.path}")
         for name, crate in fault.tests:
             is_there = not crate or name in tests_of(crate)
-            tally.holds(is_there, f"{faults.PAGE}:{fault.line}: {crate} has no test {name}")
+            tally.holds(is_there, f"{faults.DATA}:{fault.line}: {crate} has no test {name}")
     for path in (*found("crates/*/must-fail/*.edit"), *found("tests/edits/*/*.edit")):
-        tally.holds(path in named, f"{faults.PAGE}: no item names {path}")
+        tally.holds(path in named, f"{faults.DATA}: no fault names {path}")
 
 
 def reading_lists_name_definitions(tally: Tally) -> None:
