@@ -30,12 +30,13 @@ INTERRUPTED = ("env", "--default-signal=INT")
 
 
 class ScriptRun(NamedTuple):
-    """What a run wrote, its status, and how many processes it left that were killed."""
+    """What a run wrote, its status, how many processes it left that were killed, and its seconds of processors."""
 
     text: str
     # None if it didn't end within its limit.
     status: Optional[int]
     left: int
+    processor_seconds: float
 
 
 def run_whole(
@@ -54,23 +55,40 @@ def run_whole(
             stderr=subprocess.STDOUT,
             start_new_session=True,
         )
+        child = Child(ran)
         try:
-            status = waited(ran, seconds)
+            status = child.waited(seconds)
             if status is None:
                 ran.send_signal(signal.SIGINT)
-                waited(ran, END_SECONDS)
+                child.waited(END_SECONDS)
         finally:
             left = end_all(word)
-            ran.wait()
+            child.waited(GONE_SECONDS)
         output.seek(0)
-        return ScriptRun(output.read().decode(errors="replace"), status, left)
+        return ScriptRun(output.read().decode(errors="replace"), status, left, child.processor_seconds)
 
 
-def waited(ran: "subprocess.Popen[bytes]", seconds: float) -> Optional[int]:
-    """Returns the status with which a process ends within so many seconds; None if it doesn't."""
-    with contextlib.suppress(subprocess.TimeoutExpired):
-        return ran.wait(seconds)
-    return None
+class Child:
+    """A process that is waited for, and what it and those that it waited for took of processors."""
+
+    def __init__(self, ran: "subprocess.Popen[bytes]") -> None:
+        self.ran = ran
+        self.processor_seconds = 0.0
+
+    def waited(self, seconds: float) -> Optional[int]:
+        """Returns the status with which it ends within so many seconds; None if it doesn't."""
+        until = time.monotonic() + seconds
+        while self.ran.returncode is None:
+            # (a Popen that waits itself doesn't say what was used)
+            process, status, used = os.wait4(self.ran.pid, os.WNOHANG)
+            if process:
+                self.ran.returncode = os.waitstatus_to_exitcode(status)
+                self.processor_seconds = used.ru_utime + used.ru_stime
+            elif time.monotonic() > until:
+                return None
+            else:
+                time.sleep(LOOK_SECONDS)
+        return self.ran.returncode
 
 
 def end_all(word: str) -> int:

@@ -49,7 +49,7 @@ from issuer_host.keys.components import (
 from issuer_host.keys.key_block import Header
 from issuer_host.keys.master_key import BadKey, check_key, check_value
 from issuer_host.keys.token import Token, opened_token
-from issuer_host.keys.token_making import begin_token
+from issuer_host.keys.new_token import begin_token
 from issuer_host.keys.token_uri import read_uri
 from issuer_host.keys.uses import KEY_BYTES, Suite, Use
 from issuer_host.keys.wrapped_keys import Json, WrappedKey, key_set_of, with_key, wrapped_keys

@@ -26,15 +26,15 @@ def add_to(gateway: Gateway, options: argparse.Namespace) -> None:
         memory, seconds = Memory(), gateway.limits.seconds
         spool = SpoolQueue(gateway.loop, SpoolWriter(options.spool), memory, seconds, gateway.limited.tell)
         spool.not_stored = gateway.figures.not_stored
-        gateway.handling.advices = Advices(spool, memory)
+        gateway.handler.advices = Advices(spool, memory)
         gateway.beside.append(spool)
     if options.trace:
         log = MessageLog(gateway.loop, options.trace, options.partitions)
-        gateway.handling.log = log
+        gateway.handler.log = log
         gateway.beside.append(log)
     if options.account:
         account = account_of(gateway, options, spool)
-        gateway.handling.order = AccountOrder(account, options.account_order == ORDERS[1])
+        gateway.handler.order = AccountOrder(account, options.account_order == ORDERS[1])
         gateway.beside.append(account)
 
     if options.http:
@@ -60,7 +60,7 @@ def http_port_of(gateway: Gateway, options: argparse.Namespace) -> "HttpPort":
             " with TLS before the loopback, or say --http-anywhere"
         )
     found = http_port.HttpPlace(path, address, 0 if path else int(port), dialect)
-    return http_port.HttpPort(gateway.loop, found, gateway.handling, gateway.limits.seconds + END_SECONDS)
+    return http_port.HttpPort(gateway.loop, found, gateway.handler, gateway.limits.seconds + END_SECONDS)
 
 
 def account_of(gateway: Gateway, options: argparse.Namespace, spool: "SpoolQueue | None") -> Account:

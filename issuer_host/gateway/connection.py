@@ -6,14 +6,14 @@ from typing import TYPE_CHECKING, Optional, Protocol, cast
 from issuer_host.gateway import responses
 from issuer_host.gateway.figures import GatewayFigures
 from issuer_host.gateway.frames import BadFrame, FrameBuffer, KEEP_ALIVES_A_SECOND, KeepAlives, framer_of
-from issuer_host.gateway.handling import Handling
+from issuer_host.gateway.message_handler import MessageHandler
 from issuer_host.gateway.log import Limited
 from issuer_host.gateway.message import Codec, Message, Unreadable, Unwritable
 from issuer_host.gateway.pending_logs import PendingLogs
 from issuer_host.gateway.talk import Talk
 
 if TYPE_CHECKING:
-    from issuer_host.gateway.dialling import DialledLink
+    from issuer_host.gateway.dialler import DialledLink
 
 # Answers that a peer doesn't read are buffered up to so many bytes; then nothing more is read from it.
 WRITE_BYTES = 1 << 16
@@ -34,7 +34,7 @@ class ConnectionOwner(Protocol):
     figures: GatewayFigures
     is_stopping: bool
     limited: Limited
-    handling: Handling
+    handler: MessageHandler
     logs: PendingLogs
 
     @property
@@ -159,7 +159,7 @@ class Connection(asyncio.BufferedProtocol):
         try:
             message = self.codec.unpack(data)
         except Unreadable as fault:
-            self.owner.handling.unreadable(self, fault, self.heard)
+            self.owner.handler.unreadable(self, fault, self.heard)
             if fault.so_far is None and not fault.is_of_other_edition:
                 self.close_after_answers("no message")
             return
@@ -167,9 +167,9 @@ class Connection(asyncio.BufferedProtocol):
             return
         refusal = self.talk.refusal_of(message)
         if refusal:
-            self.owner.handling.refuse(self, message, self.heard, refusal, "its link is signed off")
+            self.owner.handler.refuse(self, message, self.heard, refusal, "its link is signed off")
         else:
-            self.owner.handling.take(self, message, self.heard)
+            self.owner.handler.take(self, message, self.heard)
 
     def hold(self) -> None:
         """One more message is in flight."""

@@ -11,10 +11,10 @@ from typing import Any, Optional, Protocol
 from issuer_host.facts.statuses import Status
 from issuer_host.gateway.admission import Admission, PortLimits
 from issuer_host.gateway.connection import Connection
-from issuer_host.gateway.dialling import DialledLink, Dialler
+from issuer_host.gateway.dialler import DialledLink, Dialler
 from issuer_host.gateway.figures import GatewayFigures
 from issuer_host.gateway.figures_page import FiguresPage
-from issuer_host.gateway.handling import Handling
+from issuer_host.gateway.message_handler import MessageHandler
 from issuer_host.gateway.log import Limited, NAME, tell
 from issuer_host.gateway.message import Codec
 from issuer_host.gateway.order_router import OrderRouter
@@ -116,7 +116,7 @@ class Gateway:
         self.figures, self.limited = GatewayFigures(partitions, has_hosts), Limited()
         self.figures.measure = self.measure
         self.traffic = Traffic(loop, bounds.seconds, is_ordered, self.figures)
-        self.handling = Handling(self.figures, self.limited, self.traffic.ask, self.made_room)
+        self.handler = MessageHandler(self.figures, self.limited, self.traffic.ask, self.made_room)
         self.hosts: list[Partition] = []
         limits, by_tls = bounds.of_port(context is not None), context is not None
         self.port = Port(loop, Admission(limits, by_tls), context, self.figures, Limited(PORT_LINES_A_SECOND))

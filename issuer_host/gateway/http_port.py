@@ -17,7 +17,7 @@ from issuer_host.facts.refusal_reasons import reason_of
 from issuer_host.facts.request_lines import objects_of, pan_of_line
 from issuer_host.gateway import mapping, requests
 from issuer_host.gateway.dialect import Dialect
-from issuer_host.gateway.handling import Exchange, Handling
+from issuer_host.gateway.message_handler import Exchange, MessageHandler
 from issuer_host.gateway.log import tell
 from issuer_host.gateway.message import Message
 from issuer_host.gateway.requests import MAX_CHIP_DATA, RequestLine
@@ -57,7 +57,7 @@ class HttpQuestion(NamedTuple):
 
 
 class HttpPeer:
-    """A request by HTTP, as the handling of messages sees it."""
+    """A request by HTTP, as their handler sees it."""
 
     def __init__(self, dialect: Dialect, address: str, response: "asyncio.Future[Message]") -> None:
         self.dialect, self.address, self.response = dialect, address, response
@@ -78,10 +78,10 @@ class HttpPort:
     """The server."""
 
     def __init__(
-        self, loop: asyncio.AbstractEventLoop, place: HttpPlace, handling: Handling, end_seconds: float
+        self, loop: asyncio.AbstractEventLoop, place: HttpPlace, handler: MessageHandler, end_seconds: float
     ) -> None:
         """At its end it waits so long for the answers to what it has taken."""
-        self.loop, self.place, self.handling, self.end_seconds = loop, place, handling, end_seconds
+        self.loop, self.place, self.handler, self.end_seconds = loop, place, handler, end_seconds
         self.in_flight = 0
         self.runner: Optional[web.AppRunner] = None
 
@@ -138,10 +138,10 @@ class HttpPort:
         response: "asyncio.Future[Message]" = self.loop.create_future()
         peer = HttpPeer(dialect, f"http {request.remote or 'at a socket'}", response)
         exchange = Exchange(peer, asked.message, began)
-        self.handling.figures.count("messages", ("what", mapping.DECIDE))
-        self.handling.put(exchange, asked.line)
+        self.handler.figures.count("messages", ("what", mapping.DECIDE))
+        self.handler.put(exchange, asked.line)
         message = await response
-        self.handling.figures.responded(message.code, self.loop.time() - began)
+        self.handler.figures.responded(message.code, self.loop.time() - began)
         return response_of(exchange, message)
 
 

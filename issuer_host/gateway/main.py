@@ -49,7 +49,7 @@ from collections.abc import Sequence
 from issuer_host.facts.refusal import Refusal
 from issuer_host.facts.statuses import Status
 from issuer_host.gateway import beside, options as options_of
-from issuer_host.gateway.dialling import DialledLink
+from issuer_host.gateway.dialler import DialledLink
 from issuer_host.gateway.gateway import Gateway, Partition
 from issuer_host.gateway.log import NAME, tell
 from issuer_host.gateway.options import BadOptions

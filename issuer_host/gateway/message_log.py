@@ -10,7 +10,7 @@ from issuer_host.facts.request_lines import Torn, objects_of
 from issuer_host.files.audit import Audit
 from issuer_host.gateway import mapping
 from issuer_host.gateway.advices import pan_of
-from issuer_host.gateway.handling import Exchange
+from issuer_host.gateway.message_handler import Exchange
 from issuer_host.gateway.log import NAME
 from issuer_host.gateway.message import Message
 from issuer_host.gateway.responses import decision_of

@@ -10,7 +10,7 @@ from issuer_host.facts.paths import HOME
 from issuer_host.files.private_files import check_secret
 from issuer_host.gateway.dialect import Dialect
 from issuer_host.gateway.dialect_file import BadDialect, named, read_dialect, shipped_in
-from issuer_host.gateway.dialling import DialledPlace
+from issuer_host.gateway.dialler import DialledPlace
 from issuer_host.gateway.frames import GREATEST_FRAME
 from issuer_host.gateway.gateway import Bounds, Listener
 from issuer_host.gateway.plans import PlanningCodec

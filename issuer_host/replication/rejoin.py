@@ -26,7 +26,7 @@ from typing import NamedTuple, Optional
 
 from issuer_host.broker.redundancy import Redundancy, redundancy_of, what_is_lost
 from issuer_host.broker.settings import COMMAND, Control
-from issuer_host.broker.watching import Act, BrokerWatch, HUNG_SECONDS
+from issuer_host.broker.broker_watch import Act, BrokerWatch, HUNG_SECONDS
 from issuer_host.facts.refusal import Refusal, tell
 from issuer_host.telling.broker_figures import page_of
 from issuer_host.telling.figures_server import FiguresServer

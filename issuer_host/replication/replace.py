@@ -40,7 +40,7 @@ from issuer_host.facts.paths import HOME
 from issuer_host.facts.refusal import Refusal, tell
 from issuer_host.replication import node_file
 from issuer_host.replication.node_file import PartitionSettings
-from issuer_host.replication.replacing import Does, Replaced, Step, next_step
+from issuer_host.replication.replacement import Does, Replaced, Step, next_step
 
 NAME = "replace"
 NODE = os.path.join(HOME, "deploy", "node")

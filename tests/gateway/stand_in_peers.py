@@ -8,7 +8,7 @@ from gateway.gateways import DIALECTS
 from issuer_host.gateway.dialect import Dialect
 from issuer_host.gateway.dialect_file import named, read_dialect
 from issuer_host.gateway.figures import GatewayFigures
-from issuer_host.gateway.handling import Handling
+from issuer_host.gateway.message_handler import MessageHandler
 from issuer_host.gateway.log import Limited
 from issuer_host.gateway.mapping import CODE
 from issuer_host.gateway.message import Message, Value
@@ -89,15 +89,15 @@ class StandInHost:
 
 
 class HandlingBench:
-    """The handling of messages, with a peer and a host that stand in."""
+    """The handler of messages, with a peer and a host that stand in."""
 
     def __init__(self, dialect: Dialect, **more: Any) -> None:
         self.peer, self.host = StandInPeer(dialect), StandInHost()
         self.figures = GatewayFigures(1)
-        self.handling = Handling(self.figures, Limited(), self.host.ask, **more)
+        self.handler = MessageHandler(self.figures, Limited(), self.host.ask, **more)
 
     def take(self, message: Message) -> None:
-        self.handling.take(self.peer, message, 0.0)
+        self.handler.take(self.peer, message, 0.0)
 
 
 @contextlib.contextmanager

@@ -2,7 +2,7 @@
 from typing import Optional
 
 from issuer_host.broker.redundancy import COORDINATOR, Group, OF_STREAMS, QUEUE, Redundancy, STREAM
-from issuer_host.replication.replacing import Does, Replaced, Step
+from issuer_host.replication.replacement import Does, Replaced, Step
 
 BROKERS = tuple(f"rabbit@10.0.0.{number}" for number in (1, 2, 3))
 NEW, LIVING = BROKERS[2], BROKERS[0]

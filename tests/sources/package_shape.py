@@ -1,4 +1,4 @@
-"""The shape of the package issuer_host: which subpackage imports which, and the names and sizes of its classes."""
+"""The shape of the package issuer_host: which subpackage imports which, and the names and sizes of what it has."""
 import ast
 import functools
 import os
@@ -13,6 +13,8 @@ PACKAGE = "issuer_host"
 ORDER = (*INSTALLED, *OF_SOURCES)
 MOST_METHODS = 20
 MOST_LINES = 300
+# Names that end like a participle, and are things.
+THINGS = ("mapping",)
 
 
 class ImportedName(NamedTuple):
@@ -109,8 +111,17 @@ def classes_have_one_job(tally: Tally) -> None:
             tally.holds(lines <= MOST_LINES, f"{place}: {name} has {lines} lines, {MOST_LINES} at most")
 
 
+def modules_are_named_by_things(tally: Tally) -> None:
+    """No module is named by what somebody is doing: its name says what it is about."""
+    for source in sources():
+        name = os.path.basename(source.path).removesuffix(".py")
+        is_thing = name in THINGS or not name.endswith("ing")
+        tally.holds(is_thing, f"{source.path}: {name} is no thing: name what it is about, as `dialler` for `dialling`")
+
+
 CHECKS: list[Check] = [
     check_of(imports_follow_the_order),
     check_of(classes_have_names_of_their_own),
     check_of(classes_have_one_job),
+    check_of(modules_are_named_by_things),
 ]

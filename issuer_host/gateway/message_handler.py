@@ -20,7 +20,7 @@ Ask = Callable[[RequestLine, object, float, Callable[[Optional[str]], None]], No
 
 
 class MessagePeer(Protocol):
-    """A connection, as the handling of its messages sees it."""
+    """A connection, as the handler of its messages sees it."""
 
     dialect: Dialect
     # Where the other end is, for the log.
@@ -71,7 +71,7 @@ class AnswerLog(Protocol):
         """A message was answered with this code in element 39, or got no response."""
 
 
-class Handling:
+class MessageHandler:
     """Handles the messages of all connections."""
 
     def __init__(
