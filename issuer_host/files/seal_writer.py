@@ -1,6 +1,8 @@
 """Seals the records of a partition's journals while its host writes them."""
+import contextlib
 import time
-from collections.abc import Callable
+from collections.abc import Callable, Iterator
+from typing import NamedTuple
 
 from issuer_host.facts.answers import RECORDED, words_of
 from issuer_host.facts.limits import MAX_SHARDS
@@ -15,9 +17,18 @@ from issuer_host.files.seals import Left, Seals, seals_of
 # are sealed next, so that the bridge's loop goes on.
 PIECES = 16
 LOOKED_PIECES = 256
+# So many are looked through where others wait for the same step of the loop.
+LOOKED_IN_A_STEP = 16
 # A disk that took no seal is tried again after so long.
 AGAIN_SECONDS = 5.0
 UNSEALED = "no seal is written"
+
+
+class Pieces(NamedTuple):
+    """How many pieces of a journal were looked through for the next record, and how many were sealed."""
+
+    looked: int
+    sealed: int
 
 
 class SealWriter:
@@ -55,12 +66,32 @@ class SealWriter:
 
     def look(self) -> None:
         """Seals what is durable. Long journals that this run hasn't sealed yet take several looks."""
-        if self.is_over or self.clock() < self.not_before:
+        if not self.may_seal:
             return
-        left = LOOKED_PIECES
-        try:
+        with self.bearing_faults():
+            left = LOOKED_PIECES
             for shard, count in self.durable.items():
-                left -= self.seal(shard, count, left)
+                left -= self.seal(shard, count, left, PIECES).looked
+
+    def look_at(self, shard: int) -> bool:
+        """Seals a piece of a journal: a step that takes a moment. Returns whether another one would seal more."""
+        if not self.may_seal:
+            return False
+        with self.bearing_faults():
+            done = self.seal(shard, self.durable[shard], LOOKED_IN_A_STEP, 1)
+            followed, _ = self.journals[shard]
+            return any(done) and followed.index < self.durable[shard]
+        return False
+
+    @property
+    def may_seal(self) -> bool:
+        return not self.is_over and self.clock() >= self.not_before
+
+    @contextlib.contextmanager
+    def bearing_faults(self) -> Iterator[None]:
+        """Seals as far as the disk and the journals let it. A fault is told, and ends nothing else."""
+        try:
+            yield
         except OSError as fault:
             self.troubles.begins(UNSEALED, f"{fault.strerror}: make room, or see to the disk. It is tried again")
             self.not_before = self.clock() + AGAIN_SECONDS
@@ -71,8 +102,8 @@ class SealWriter:
         else:
             self.troubles.ends(UNSEALED, "seals are written again")
 
-    def seal(self, shard: int, durable: int, most: int) -> int:
-        """Seals what is durable of a shard. Returns how many pieces were looked through, so many at most."""
+    def seal(self, shard: int, durable: int, most: int, pieces: int) -> "Pieces":
+        """Seals what is durable of a shard. So many pieces are looked through at most, and so many sealed."""
         if shard not in self.journals and shard < MAX_SHARDS:
             followed = FollowedJournal(shard, self.name, 0)
             self.journals[shard] = followed, Seals(followed.path)
@@ -82,16 +113,16 @@ class SealWriter:
                 # (another process seals them too, or a run before this one did)
                 followed.go_to(seals.count)
             looked = followed.find(most)
-            if followed.at is None:
-                return looked
-            for _ in range(PIECES):
+            sealed = 0
+            while followed.at is not None and sealed < pieces:
                 lines = followed.durable_lines(durable)
                 if not lines:
                     break
                 seals.append(seals_of(seals.last(), lines))
                 for line in lines:
                     followed.wrote(line)
-        return looked
+                sealed += 1
+        return Pieces(looked, sealed)
 
     def sealed(self) -> dict[int, Left]:
         """Returns the bytes and seals that each journal has at least: those of the records that were sealed."""

@@ -26,6 +26,8 @@ LOAD_BYTES = 2_000_000
 PROBE, PROBE_ANSWER = b"x", "refused 1 1"
 LOOK_SECONDS = 1.0
 EARLY_SECONDS = 0.01
+# Between two pieces of journals that are sealed.
+SEAL_SECONDS = 0.005
 # Multiples of the golden ratio are far apart, however many there are.
 GOLDEN_RATIO = (5**0.5 - 1) / 2
 
@@ -73,6 +75,8 @@ class Supervisor:
         # The journals that the first run loaded: no run of this process goes on over other files.
         self.files = FirstJournals(journal)
         self.sealing = SealWriter(journal, name)
+        # The shards of this run that are still to be sealed at this look.
+        self.unsealed: list[int] = []
         # Whether a host is started as soon as it may be.
         self.is_needed = False
         # How many waits were begun: an earlier one counts for nothing.
@@ -164,7 +168,7 @@ class Supervisor:
             return
         self.waits += 1
         self.owed = 0
-        self.sealing = sealing
+        self.sealing, self.unsealed = sealing, []
         self.lifecycle.started(self.clock(), limits_of(self.journal))
         self.owner.started()
         self.put(PROBE)
@@ -234,10 +238,21 @@ class Supervisor:
         """A look at the run each second."""
         if run is not self.run:
             return
-        self.sealing.look()
+        if not self.unsealed:
+            self.unsealed = list(self.sealing.durable)
+            self.seal_on(run)
         sight = self.files.look()
         self.act(self.lifecycle.look(self.clock(), self.owed > 0, sight))
         self.look_later(run)
+
+    def seal_on(self, run: HostProcess) -> None:
+        """Seals a piece of the next journal, and goes on in a moment: so no step of the loop takes long."""
+        if run is not self.run or not self.unsealed:
+            return
+        if not self.sealing.look_at(self.unsealed[0]):
+            del self.unsealed[0]
+        if self.unsealed:
+            self.loop.call_later(SEAL_SECONDS, lambda: self.seal_on(run))
 
     @staticmethod
     def clock() -> float:
