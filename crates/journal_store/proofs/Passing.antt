@@ -257,7 +257,7 @@ module _ (sure : ℕ) where
   sync-cut failed old mid new is syncs =
       Passes-weaker (WhileKept mid.now) (IsCutMoment sure old.now) mid new (λ moment. kept-cut sure old.now mid.now moment is) syncs.passes
 
-  -- a sync alone, a cut alone, and a cut and a sync
+  -- a sync alone, and a cut alone
   pub crash-sync : (failed : Bool) (a b : Option Disk) → BothTold (SyncsDisk failed) a b
       → BothTold (λ old new. LeavesOnly (IsCutImage sure old.now) old new) a b
   crash-sync failed a b = BothTold-weaker (SyncsDisk failed) (λ old new. LeavesOnly (IsCutImage sure old.now) old new) a b
@@ -267,11 +267,3 @@ module _ (sure : ℕ) where
       → BothTold (λ old new. LeavesOnly (IsCutImage sure old.now) old new) a b
   crash-cut failed a b = BothTold-weaker (CutsDisk sure failed) (λ old new. LeavesOnly (IsCutImage sure old.now) old new) a b
       (λ x y cuts. cut-leaves x y (Passes-weaker (WhileCut sure x.now) (IsCutMoment sure x.now) x y (while-cut x.now) cuts.passes))
-
-  pub crash-cut_sync : (failed second : Bool) (a b c : Option Disk) → BothTold (CutsDisk sure failed) a b → BothTold (SyncsDisk second) b c
-      → BothTold (λ old new. LeavesOnly (IsCutImage sure old.now) old new) a c
-  crash-cut_sync failed second a b c =
-      BothTold-then (CutsDisk sure failed) (SyncsDisk second) (λ old new. LeavesOnly (IsCutImage sure old.now) old new) a b c
-      (λ x y z cuts syncs.
-      let first = Passes-weaker (WhileCut sure x.now) (IsCutMoment sure x.now) x y (while-cut x.now) cuts.passes in
-      cut-leaves x z (Passes-then (IsCutMoment sure x.now) x y z first (sync-cut second x y z first.last syncs)))

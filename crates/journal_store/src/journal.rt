@@ -4,7 +4,7 @@ ghost use Rattle.issuer_base.specs.OutsideFaults.{CountsFaults};
 ghost use Rattle.issuer_base.specs.Stores.{BothTold, HasRoom, LeavesOnly, Passes};
 ghost use Rattle.journal_store.specs.Images.{HasSafeText, IsEitherImage};
 
-use crate::reading::settle;
+use crate::settling::settle;
 use issuer_base::{Store, StoreFail};
 
 /// The text of a shard's records in a store.

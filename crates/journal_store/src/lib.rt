@@ -4,6 +4,7 @@
 
 mod journal;
 mod reading;
+mod settling;
 
 pub use journal::Journal;
 pub use reading::read_from;

@@ -1,9 +1,8 @@
-//! Reading the bytes of a store into a buffer, and truncating a store to its text.
-ghost use Rattle.std.specs.Prelude.{◌≡◌, ◌-◌, ◌≤◌, ℕ, List, [], ◌++◌, min, length, take, drop, IfOk, IfSome, IsOkAnd, OnOk, is_err, true};
+//! Reading the bytes of a store into a buffer.
+ghost use Rattle.std.specs.Prelude.{◌≡◌, ◌-◌, ◌≤◌, min, length, take, drop, IfOk, IfSome, is_err};
 ghost use Rattle.issuer_base.specs.OutsideFaults.{CountsFaults};
-ghost use Rattle.issuer_base.specs.Stores.{BothTold, CutsBytes, Disk, HasRoom, LeavesOnly, WorksWithin};
-ghost use Rattle.issuer_base.specs.Tells.{Tells};
-ghost use Rattle.journal_store.specs.Images.{HasSafeText, IsCutImage, IsImage, OnlyReads};
+ghost use Rattle.issuer_base.specs.Stores.{BothTold, WorksWithin};
+ghost use Rattle.journal_store.specs.Images.{OnlyReads};
 
 use issuer_base::{Store, StoreFail};
 
@@ -25,26 +24,4 @@ pub fn read_from<S: Store>(store: &mut S, at: u64, into: &mut [u8]) -> Result<us
         count += store.read_at(at + count as u64, &mut into[count..room])?;
     }
     Ok(count)
-}
-
-/// Truncates the store to its first `sure` bytes, and makes these durable.
-pub(crate) fn settle<S: Store>(store: &mut S, sure: u64) -> Result<(), StoreFail>
-    requires { sure ≤ S.size store.old }
-    ensures size { OnOk result (S.size store.new ≡ sure) }
-    ensures bytes { (text rest : List ℕ) → length text ≡ sure → Tells (S.bytes store.old) (text ++ rest)
-        → OnOk result (IfSome (S.bytes store.new) (IsImage text [])) }
-    ensures disk { (text rest : List ℕ) → length text ≡ sure → Tells (S.bytes store.old) (text ++ rest)
-        → OnOk result (IfSome (S.disk store.new) (λ disk. HasSafeText text [] disk.now)) }
-    ensures kept { BothTold (CutsBytes sure true) (S.bytes store.old) (S.bytes store.new) }
-    ensures crash { BothTold (λ old new. LeavesOnly (IsCutImage sure old.now) old new) (S.disk store.old)
-        (S.disk store.new) }
-    ensures room { (spare : ℕ) → HasRoom spare (S.size store.old) (S.room store.old)
-        → IsOkAnd result (λ _. HasRoom spare (S.size store.new) (S.room store.new)) }
-    ensures count { CountsFaults (S.faults store.old) (S.faults store.new) (is_err result) }
-{
-    if sure == store.len() {
-        return store.sync();
-    }
-    store.cut(sure)?;
-    store.sync()
 }

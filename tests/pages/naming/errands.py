@@ -44,8 +44,8 @@ ERRANDS = (
     ),
     Errand("add a key suite", "crates/issuer_base/src/request.rt", "fn suite", ("suite", "AES")),
     Errand(
-        "why a torn end is synced twice",
-        "crates/journal_store/src/reading.rt",
+        "why a truncated end is synced once",
+        "crates/journal_store/src/settling.rt",
         "fn settle",
         ("journal", "torn end"),
     ),
