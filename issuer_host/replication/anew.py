@@ -2,7 +2,8 @@
 
 A stream that lost its end has less than the journals, which are synced. Of several machines' journals those are right
 whose machine served last: the last barrier that counts names it. Others may be longer, by records that nobody was
-answered; and one that follows may know that barrier and lack the last records.
+answered; and one that follows may know that barrier and lack the last records. But what another machine had read in the
+stream is in those journals: else a machine went on with a stream that had lost its end, and a person decides.
 """
 import contextlib
 import glob
@@ -11,14 +12,14 @@ import shutil
 from collections.abc import Iterator, Mapping
 from typing import NamedTuple
 
-from issuer_host.facts.journals import POSITION
+from issuer_host.facts.journals import POSITION, VERSION_LINE, journal_path, shards_of_files
 from issuer_host.facts.refusal import Refusal
 from issuer_host.replication import positions
 from issuer_host.files.placement import put_in_place
 from issuer_host.replication.messages import Barrier, NO_BARRIER
 from issuer_host.replication.node_file import PartitionSettings
 from issuer_host.replication.journal_lock import LOCK, locked
-from issuer_host.replication.positions import Position
+from issuer_host.replication.positions import PIECE, Position
 from issuer_host.replication.standby_run import TransientFault
 
 # What the old files of a partition are called beside it.
@@ -68,10 +69,12 @@ def begin_anew(one: PartitionSettings, machine: str, copies: Mapping[str, str]) 
     """Begins a partition of a machine anew, and returns why so. What it had stays in a folder beside."""
     others = {name: text.replace("{}", str(one.number)) for name, text in copies.items()}
     journals = {machine: one.journal, **others}
-    found = {name: positions.read(path) for name, path in journals.items() if os.path.exists(path + POSITION)}
+    found = {name: positions.read(path, name) for name, path in journals.items() if os.path.exists(path + POSITION)}
     last = served_last(one.number, found)
     if text_of(one.journal + ANEW) == last.barrier.name:
         return f"partition {one.number} was begun anew from {last.machine}'s journals before, and is left as it is"
+    for name, position in found.items():
+        refuse_others(one.number, last.machine, journals[last.machine], name, journals[name], position)
     with held(one.journal):
         if last.machine != machine:
             move_away(one.journal)
@@ -81,6 +84,44 @@ def begin_anew(one: PartitionSettings, machine: str, copies: Mapping[str, str]) 
         begun = positions.begin(one.journal)
         put_in_place(one.journal + ANEW, last.barrier.name)
     return f"partition {one.number}: {last.why()}. It begins with {sum(begun.counts)} records, {begun.digest}"
+
+
+def refuse_others(number: int, last: str, chosen: str, name: str, journal: str, position: Position) -> None:
+    """Refuses the chosen journals if they don't begin with what another machine had read in the stream."""
+    for shard in shards_of_files(journal).journals:
+        path = journal_path(journal, shard)
+        size = size_read(path, shard, position)
+        if size > len(VERSION_LINE) and not have_same(path, journal_path(chosen, shard), size):
+            raise Refusal(
+                f"partition {number}: {name} had read records of shard {shard} in the stream that {last}, which served"
+                f" last, hasn't: {last} went on after the stream lost its end, and others may have answered by those."
+                " Decide by the switch's log whose answers stand, and leave the copies of the machines out that have"
+                " others; on such a machine, move its own journals and their position away before"
+            )
+
+
+def size_read(path: str, shard: int, position: Position) -> int:
+    """Returns the bytes of a journal that its machine read in the stream: none beyond those may be its host's."""
+    size = position.sizes[shard]
+    if position.own is None:
+        return size
+    with open(path, "rb") as opened:
+        opened.seek(size)
+        beyond = opened.read()
+    records = position.counts[shard] + beyond.count(b"\n")
+    return size + beyond.rfind(b"\n") + 1 if records > position.own[shard] else size
+
+
+def have_same(path: str, other: str, size: int) -> bool:
+    """Whether two files have the same first bytes."""
+    if not os.path.exists(other):
+        return False
+    with open(path, "rb") as one, open(other, "rb") as two:
+        while size and (piece := one.read(min(size, PIECE))):
+            if two.read(len(piece)) != piece:
+                return False
+            size -= len(piece)
+    return not size
 
 
 def text_of(path: str) -> str:

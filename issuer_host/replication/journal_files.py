@@ -14,6 +14,7 @@ from issuer_host.files.run_mark import RunMark, lock_mark
 from issuer_host.files.seals import Left, Seals, count_seals
 from issuer_host.replication.messages import NOTES, Record
 from issuer_host.replication.notes import Notes, was_changed
+from issuer_host.replication.own_records import OwnRecords
 from issuer_host.replication.positions import Position
 from issuer_host.replication.record_origins import NOWHERE, RefusedRecord
 from issuer_host.replication.rule_events import MOST_BEYOND
@@ -34,11 +35,16 @@ class Shard:
         # The bytes of what counts.
         self.size = size
         self.beyond: collections.deque[str] = collections.deque()
+        # What comes after those, and is told to no rule before it comes from the stream too.
+        self.later: collections.deque[str] = collections.deque()
         # Where what was read ends.
         self.at = size
 
     def length(self) -> int:
         return self.count + len(self.beyond)
+
+    def total(self) -> int:
+        return self.length() + len(self.later)
 
     def read_on(self, end: Optional[int] = None) -> None:
         """Reads the next records, so that there are so many, or to the journal's end."""
@@ -88,6 +94,8 @@ class JournalFiles:
         counted = zip(range(shards), position.counts, position.sizes)
         self.shards = [Shard(journal, number, count, size) for number, count, size in counted]
         self.notes = Notes(journal, position.counts[NOTES])
+        self.logs: "list[Union[Shard, Notes]]" = [*self.shards, self.notes]
+        self.own = OwnRecords(position.own)
         self.standby = standby
         # The message of the stream that is being read.
         self.origin = NOWHERE
@@ -95,15 +103,18 @@ class JournalFiles:
     def open(self) -> None:
         """Reads what there is beyond what counts. No run has the journals open.
 
-        A rule has room for so many records of each shard. Those past them come again from the stream, or count nowhere.
+        A rule has room for so many records of each shard. Those past them come again from the stream. If they may be of
+        a host of this machine they are truncated, since they may count nowhere; else they are kept for that.
         """
         self.locked_mark().close()
         self.read_all()
         self.notes.open()
-        logs: "list[Union[Shard, Notes]]" = [*self.shards, self.notes]
-        for log in logs:
-            if len(log.beyond) > self.room:
+        self.own.opened(self.logs)
+        for log in self.logs:
+            if len(log.beyond) > self.room and self.own.has_all_of(log):
                 self.truncate(log.number, log.count + self.room)
+            while len(log.beyond) > self.room:
+                log.later.appendleft(log.beyond.pop())
 
     def locked_mark(self) -> RunMark:
         """Locks the mark of the journals, which says that no run has them open."""
@@ -148,11 +159,18 @@ class JournalFiles:
             log.count_next()
 
     def put(self, record: Record) -> None:
+        if record.shard != NOTES and (record.shard >= len(self.shards) or len(record.text) >= MAX_RECORD_LINE):
+            raise RefusedRecord(f"shard {record.shard} has no journal here that could have it")
+        log = self.log(record.shard)
+        if log.later:
+            if log.later[0] != record.text:
+                self.truncate(record.shard, record.place)
+            else:
+                log.beyond.append(log.later.popleft())
+                return
         if record.shard == NOTES:
             self.put_note(record)
             return
-        if record.shard >= len(self.shards) or len(record.text) >= MAX_RECORD_LINE:
-            raise RefusedRecord(f"shard {record.shard} has no journal here that could have it")
         self.standby.put(record, self.origin)
         self.shards[record.shard].put(record.text)
 
@@ -165,16 +183,20 @@ class JournalFiles:
     def truncate(self, shard: int, length: int) -> None:
         if length < self.log(shard).count:
             raise Refusal(f"record {length} of {self.log(shard).path} counted before, and another counts now: {LOOK}")
+        self.own.refuse_cut(self.log(shard), length)
         if shard == NOTES:
             self.notes.truncate(length)
-            return
-        found = self.shards[shard]
+        else:
+            self.truncate_journal(self.shards[shard], length)
+        self.own.was_cut(self.log(shard))
+
+    def truncate_journal(self, found: Shard, length: int) -> None:
         self.standby.end_now()
         mark = self.locked_mark()
         try:
             size = found.forget_beyond(length)
             has_ended = not any(left.may_have_grown for left in mark.left().values())
-            mark.is_cut(shard, Left(size, min(length, count_seals(found.path)), True))
+            mark.is_cut(found.number, Left(size, min(length, count_seals(found.path)), True))
             cut(found.path, size, length)
             if has_ended:
                 mark.has_ended()
@@ -203,8 +225,7 @@ class JournalFiles:
 
     def grown(self, before: Position, position: Position) -> "list[str]":
         """Returns the files of which more counts at a position than at the one before."""
-        logs: "list[Union[Shard, Notes]]" = [*self.shards, self.notes]
-        return [log.path for log in logs if position.counts[log.number] > before.counts[log.number]]
+        return [log.path for log in self.logs if position.counts[log.number] > before.counts[log.number]]
 
     def are_there(self, position: Position) -> bool:
         """Whether the journals have what counts at a position."""

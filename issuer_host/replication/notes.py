@@ -92,6 +92,8 @@ class Notes:
         self.path = notes_path(journal)
         self.count = count
         self.beyond: collections.deque[str] = collections.deque()
+        # What comes after those, and is told to no rule before it comes from the stream too.
+        self.later: collections.deque[str] = collections.deque()
         self.lines = 0
         # The bytes of the file.
         self.bytes = 0
@@ -106,6 +108,9 @@ class Notes:
 
     def length(self) -> int:
         return self.count + len(self.beyond)
+
+    def total(self) -> int:
+        return self.length() + len(self.later)
 
     def text(self, place: int) -> str:
         return self.beyond[place - self.count]

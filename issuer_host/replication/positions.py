@@ -1,9 +1,10 @@
 """A machine's position in a partition's stream, in a file beside the journals.
 
 `JOURNAL.position` says up to which message the journals have what counts: the message's offset and digest, the last
-barrier that counts there, how many records of each shard count, and how many bytes of its journal these are. The line
-has a sum of itself. It may be behind the journals, and never before them. Before the first message the digest is that
-of the journals that the partition begins with: all machines begin with the same ones.
+barrier that counts there, how many records of each shard count, and how many bytes of its journal these are. It says as
+well which records beyond those may be of a host of this machine (`own_records`). The line has a sum of itself. It may
+be behind the journals, and never before them. Before the first message the digest is that of the journals that the
+partition begins with: all machines begin with the same ones.
 """
 import functools
 import hashlib
@@ -28,6 +29,8 @@ from issuer_host.replication.notes import read_notes, write_notes
 BEFORE = -1
 DIGITS = 32
 BASE = "base."
+# The member that files of an older release lack.
+OWN = "own"
 PIECE = 1 << 20
 
 
@@ -39,6 +42,8 @@ class Position(NamedTuple):
     barrier: Barrier
     counts: tuple[int, ...]
     sizes: tuple[int, ...]
+    # Of each shard: the records from this index on were read in the stream. None while a host may record.
+    own: Optional[tuple[int, ...]] = None
 
 
 def first_text(digest: str) -> str:
@@ -54,12 +59,12 @@ def position_path(journal: str) -> str:
     return journal + POSITION
 
 
-def read(journal: str) -> Position:
-    """Returns the position beside journals. Refuses one that is missing, or that isn't behind the journals."""
+def read(journal: str, machine: str = "") -> Position:
+    """Returns a machine's position beside journals. Refuses one that is missing, or that isn't behind the journals."""
     path = position_path(journal)
     try:
         with open(open_regular(path, os.O_RDONLY), encoding="utf-8") as text:
-            found = position_of(said_of(text.read().rstrip("\n")))
+            found = position_of(said_of(text.read().rstrip("\n")), machine)
     except FileNotFoundError as fault:
         raise Refusal(
             f"there is no {path}: begin the partition by deploy/node --begin, once, on all machines with the same"
@@ -76,20 +81,25 @@ def read(journal: str) -> Position:
     return found
 
 
-def position_of(said: "dict[str, Any]") -> Position:
-    """Returns the position that a file says. Another one is a ValueError, a KeyError or a TypeError."""
-    if set(said) != set(Position._fields):
+def position_of(said: "dict[str, Any]", machine: str) -> Position:
+    """Returns the position that a machine's file says. Another one is a ValueError, a KeyError or a TypeError.
+
+    A file of an older release doesn't say which records may be the machine's own: any if its barrier counts, else none.
+    """
+    if {*said, OWN} != set(Position._fields):
         raise ValueError("another member")
     barrier = Barrier(*said["barrier"])
     counts, sizes = tuple(said["counts"]), tuple(said["sizes"])
-    numbers = (said["offset"], barrier.number, *counts, *sizes)
+    own = said.get(OWN, None if barrier.machine == machine else counts)
+    own = None if own is None else tuple(own)
+    numbers = (said["offset"], barrier.number, *counts, *sizes, *(own or ()))
     if not all(type(one) is int and one >= BEFORE for one in numbers):
         raise ValueError("a number")
-    if len(counts) != LOGS or len(sizes) != LOGS:
+    if len(counts) != LOGS or len(sizes) != LOGS or own is not None and len(own) != LOGS:
         raise ValueError("a length")
     if barrier != NO_BARRIER and not NAME.fullmatch(barrier.name):
         raise ValueError("a name")
-    return Position(said["offset"], str(said["digest"]), barrier, counts, sizes)
+    return Position(said["offset"], str(said["digest"]), barrier, counts, sizes, own)
 
 
 def check(journal: str, position: Position) -> None:
@@ -168,7 +178,7 @@ def begin(journal: str) -> Position:
     first, notes = read_notes(journal)
     counts[NOTES] = first + len(notes)
     total.update("".join(f"{note}\n" for note in notes).encode())
-    found = Position(BEFORE, total.hexdigest()[:DIGITS], NO_BARRIER, tuple(counts), tuple(sizes))
+    found = Position(BEFORE, total.hexdigest()[:DIGITS], NO_BARRIER, tuple(counts), tuple(sizes), tuple(counts))
     write(journal, found)
     return found
 
@@ -203,11 +213,13 @@ def measured(path: str) -> tuple[int, int, str]:
 def copy(source: str, target: str) -> Position:
     """Copies the position of other journals, and as much of these as counts there.
 
-    The position comes first: what counts there stays in journals that a node goes on writing.
+    The position comes first: what counts there stays in journals that a node goes on writing. No host has made records
+    beyond it in the copy.
     """
     if shards_of_files(target).journals or os.path.exists(position_path(target)):
         raise Refusal(f"there are journals {target}, or a position: move them away")
     found = read(source)
+    found = found._replace(own=found.counts)
     for shard in shards_of_files(source).journals:
         copy_bytes(journal_path(source, shard), journal_path(target, shard), found.sizes[shard])
     check(target, found)

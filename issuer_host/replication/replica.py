@@ -61,7 +61,7 @@ class Replica:
     ) -> None:
         self.guard, self.owner = guard, owner
         self.is_ended = False
-        found = positions.read(settings.journal)
+        found = positions.read(settings.journal, node.machine)
         self.journals = journals_of(loop, guard, node, settings, found)
         place = StreamPlace(found.offset, found.digest)
         self.stream = Stream(loop, macs, place, lambda: self.reader.call(), owner.tell_state)
@@ -101,13 +101,19 @@ class Replica:
         self.reader.write(text)
 
     def ready(self) -> None:
+        """All that the stream had was read. What this machine took of it before is among that."""
+        self.journals.own.refuse_rest(self.journals.logs)
         self.owner.caught_up()
 
     def begin_host(self) -> None:
+        self.journals.own.host_begins()
         self.journals.standby.end(lambda: self.guard.take(self.keep_barrier))
 
     def keep_barrier(self) -> None:
-        """Has the position name the barrier before the first reply: so a person finds who served last."""
+        """Has the position name the barrier, and say that a host may record, before there is one.
+
+        So a person finds who served last, and a start knows which records may count nowhere.
+        """
         barrier = self.rule.barrier
 
         def kept(fault: "OSError | None") -> None:
@@ -125,6 +131,7 @@ class Replica:
         self.owner.end_host()
         self.journals.standby.forget_then()
         self.journals.read_all()
+        self.journals.own.host_ended(self.journals.logs)
 
     # The host
 
@@ -151,7 +158,7 @@ class Replica:
     def position(self) -> Position:
         """Returns the position of what was read."""
         counts, sizes = self.journals.counts(), self.journals.sizes()
-        return Position(*self.stream.signed, self.rule.barrier, counts, sizes)
+        return Position(*self.stream.signed, self.rule.barrier, counts, sizes, self.journals.own.at(counts))
 
     def position_failed(self, fault: OSError) -> None:
         self.owner.tell_state(f"the position can't be written: {fault.strerror}")

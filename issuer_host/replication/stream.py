@@ -24,6 +24,7 @@ from issuer_host.host.event_loop import Loop
 from issuer_host.replication.channels import close, is_usable
 from issuer_host.replication.message_mac import MessageMacs
 from issuer_host.replication.messages import Mark, MessageFault, text_of
+from issuer_host.replication.own_records import ANEW
 from issuer_host.replication.positions import BEFORE, digest_of, first_text
 from issuer_host.replication.stream_writer import StreamWriter
 
@@ -36,10 +37,6 @@ FIRST, LAST = "first", "last"
 REASON = 160
 # What a person does.
 COPY = "copy another machine's journals by deploy/node --copy"
-ANEW = (
-    "begin it anew from the journals of the machine that served last, which need not be the longest ones: deploy/node"
-    " --anew finds that machine, and docs/OPERATIONS.md has the steps"
-)
 KEY = (
     "give this machine the cluster's keys, or begin a stream anew that was written without them; docs/MACHINES.md has"
     ' both, in "The cluster\'s key"'

@@ -252,6 +252,10 @@ def refuses_a_position_that_was_changed(tally: Tally) -> None:
         tally.expect(taken, 0, f"how many of {8 * len(data) - 8} changed positions are taken")
         write_text(host.folder, os.path.basename(path), json.dumps(right._asdict()) + "\n")
         tally.expect(positions.read(host.name), right, "a position that an older release wrote, without a sum")
+        old = {name: value for name, value in right._asdict().items() if name != positions.OWN}
+        write_text(host.folder, os.path.basename(path), json.dumps(old) + "\n")
+        for machine, own in (("", right.counts), ("m9", right.counts), (BARRIER.machine, None)):
+            tally.expect(positions.read(host.name, machine).own, own, f"an older release's, of {machine or 'nobody'}")
 
 
 def copies_what_counts(tally: Tally) -> None:
@@ -264,7 +268,8 @@ def copies_what_counts(tally: Tally) -> None:
         tally.expect(ran.returncode, Status.OK, f"a copy, with {ran.stderr!r}")
         with open(other.journal(0), encoding="ascii") as text:
             tally.expect(text.read().splitlines()[1:], lines[:3], "the records of the copy")
-        tally.expect(positions.read(other.name), right, "the position of the copy")
+        copied = right._replace(own=right.counts)
+        tally.expect(positions.read(other.name), copied, "the position of the copy: no host made records beyond it")
         tally.expect(other.start().returncode, Status.OK, "the status of a start over the copy")
         is_refused(tally, run(tally, "node", "--copy", host.name, other.name), "a second copy", "move them away")
 
@@ -375,6 +380,59 @@ def begins_with_what_a_rule_has_room_for(tally: Tally) -> None:
             tally.expect(seals.count, 4, "the seals")
         tally.expect(read_notes(host.name)[1], notes[:3], "the notes then")
         tally.expect(host.start().returncode, Status.OK, "the status of a start afterwards")
+
+
+def truncates_nothing_that_it_read_in_the_stream(tally: Tally) -> None:
+    """A machine that followed keeps what it took, however far beyond its position, and stops where it differs."""
+    with new_host(tally) as host:
+        lines = records(host.begun(), 5)
+        host.start()
+        at = position_of(host, 1, lines)
+        positions.write(host.name, at._replace(own=at.counts))
+        journals = files_of(host, room=2).journals
+        tally.expect((journals.length(0), journals.shards[0].total()), (3, 5), "what a rule is told, and what there is")
+        tally.holds("lost its end" in refused(lambda: journals.own.refuse_rest(journals.logs)), "the rest doesn't come")
+        tally.holds("lost its end" in refused(lambda: journals.truncate(0, 2)), "a record that it took is truncated")
+        journals.count_to(0, 3)
+        other = Record(0, 3, f"s {PANS[0]}ffff 00 9")
+        tally.holds("lost its end" in refused(lambda: journals.put(other)), "another record than the one that it took")
+        for place in (3, 4):
+            journals.put(Record(0, place, lines[place]))
+            journals.count_to(0, place + 1)
+        tally.holds(not journals.standby.is_running, "what is there isn't appended again")
+        tally.expect(refused(lambda: journals.own.refuse_rest(journals.logs)), "", "all came again")
+        with open(host.journal(0), encoding="ascii") as text:
+            tally.expect(text.read().splitlines()[1:], lines, "the records then")
+        tally.expect(journals.sizes()[0], os.path.getsize(host.journal(0)), "the bytes that count")
+
+
+def truncates_what_a_host_made_once(tally: Tally) -> None:
+    """What a host may have recorded is truncated, and what comes in its place isn't; so a position says it."""
+    with new_host(tally) as host:
+        lines = records(host.begun(), 5)
+        host.start()
+        at = position_of(host, 2, lines)
+        positions.write(host.name, at)
+        journals = files_of(host).journals
+        own = (5, *at.counts[1:])
+        tally.expect(journals.own.at(journals.counts()), own, "what a position says after a host ended")
+        journals.truncate(0, 2)
+        for place in (2, 3):
+            journals.put(Record(0, place, lines[place]))
+        tally.expect(journals.own.at(journals.counts()), at.counts, "what a position says then")
+        tally.holds("lost its end" in refused(lambda: journals.truncate(0, 3)), "what came then is truncated")
+        journals.standby.end_now()
+        journals.own.host_begins()
+        tally.expect(journals.own.at(journals.counts()), None, "what a position says while a host may record")
+        positions.write(host.name, at._replace(own=own))
+        journals = files_of(host).journals
+        journals.truncate(0, 3)
+        tally.expect(journals.length(0), 3, "the records of a host that ended before the position")
+        # (the disk has lost some of them, as a disk may that wasn't synced)
+        positions.write(host.name, at._replace(own=own))
+        journals = files_of(host).journals
+        journals.put(Record(0, 3, lines[3]))
+        tally.holds("lost its end" in refused(lambda: journals.truncate(0, 3)), "what came after them is truncated")
 
 
 class AtOnce:
@@ -604,6 +662,8 @@ CHECKS = [
         only_a_node_appends_to_replicated_journals,
         truncates_what_does_not_count,
         begins_with_what_a_rule_has_room_for,
+        truncates_nothing_that_it_read_in_the_stream,
+        truncates_what_a_host_made_once,
         writes_a_position_once_journals_have_what_counts,
         refuses_a_record_that_is_none,
         ends_a_run_of_standby_that_hangs,

@@ -256,6 +256,16 @@ class Machine:
             found: dict[str, Any] = json.load(text)
             return found
 
+    @contextlib.contextmanager
+    def position_of_before(self, number: int) -> Iterator[None]:
+        """Has a machine keep the position of now, as where no later one was written before its power went."""
+        path = f"{self.journal(number)}.position"
+        with open(path, "rb") as text:
+            kept = text.read()
+        yield
+        with open(path, "wb") as text:
+            text.write(kept)
+
     def barrier(self, number: int) -> int:
         """Returns the number of the last barrier that counts, once the position has it."""
         wait_until(lambda: self.position(number)["barrier"][0] > 0, 20)
@@ -463,6 +473,11 @@ class Room:
         with self.channel() as channel:
             channel.queue_delete(topology.stream_of(number))
         self.declare()
+
+    def lose_end(self, number: int, bodies: Sequence[bytes]) -> None:
+        """Has a partition's stream be these messages, with which it began, as where it loses its end."""
+        self.make_anew(number)
+        self.write_all(number, bodies)
 
     def served_last(self, number: int) -> Machine:
         """Returns the machine that the last barrier names, by the positions of all."""

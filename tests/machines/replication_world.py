@@ -3,15 +3,18 @@
 The broker takes what each bridge wrote in that bridge's order, at any time, loses it, or takes it twice. It calls a
 bridge while another still believes that it is the active one. A bridge reads as late as it likes. A machine is killed,
 and begins again from its journals and a place in the stream that it kept some time before. A stranger, who reads the
-stream and has no key of the cluster, writes to it.
+stream and has no key of the cluster, writes to it. The stream may lose its end, with all machines killed.
 """
 import collections
 import functools
+import itertools
 from collections.abc import Callable, Hashable, Iterator
 from typing import NamedTuple, Optional, Protocol
 
 from issuer_host.replication.message_mac import MessageMacs
+from issuer_host.facts.refusal import Refusal
 from issuer_host.replication.messages import Barrier, LOGS, MessageFault, Record
+from issuer_host.replication.own_records import OwnRecords
 from issuer_host.replication.rule_events import Beginning, PartitionRule
 from issuer_host.replication.rule_turns import Answer as HostAnswer, RuleTurns
 from machines.bridge_model import BridgeModel
@@ -55,6 +58,10 @@ class Broken(Exception):
     """A promise is broken."""
 
 
+class LostEnd(Exception):
+    """A machine stops: by its journals the stream lost its end."""
+
+
 class Step(NamedTuple):
     """What happens next: by its name, on which machine, and to which counter of a card."""
 
@@ -69,6 +76,21 @@ class Kept(NamedTuple):
     position: int
     barrier: Barrier
     records: tuple[int, ...]
+    own: Optional[tuple[int, ...]]
+    # Of each shard: whether a host may have recorded beyond what counts.
+    served: tuple[bool, ...]
+
+
+class Log(NamedTuple):
+    """A shard's journal, as it is asked for what may be a host's."""
+
+    number: int
+    path: str
+    count: int
+    length: int
+
+    def total(self) -> int:
+        return self.length
 
 
 class Node:
@@ -90,7 +112,9 @@ class Node:
         self.count = Count()
         # And how many records of each shard do, by what the rule has said.
         self.said = [0] * LOGS
-        self.kept = Kept(0, self.count.barrier, tuple(self.count.records))
+        self.served = (False,) * world.shards
+        self.kept = Kept(0, self.count.barrier, tuple(self.count.records), tuple(self.count.records), self.served)
+        self.own = world.own(None)
         self.names = 0
         self.is_in_line = self.has_host = self.is_serving = False
         self.begin_again()
@@ -101,6 +125,8 @@ class Node:
         self.position = self.kept.position
         self.count = Count(self.kept.barrier, self.kept.records)
         self.said = list(self.kept.records)
+        self.own, self.served = self.world.own(self.kept.own), self.kept.served
+        self.own.opened(self.logs())
         beginning = Beginning(f"m{self.number}", self.kept.barrier, self.kept.records)
         self.rule = self.world.new_rule(beginning)
         self.turns = self.world.turns(self.rule, beginning, self, self, self.new_name)
@@ -113,15 +139,20 @@ class Node:
         self.written.append(self.world.signed(parse(text)))
 
     def ready(self) -> None:
+        self.stops_at(lambda: self.own.refuse_rest(self.logs()))
         self.is_in_line, self.is_serving = True, False
 
     def begin_host(self) -> None:
-        """Starts the host, which loads the journals at once."""
+        """Starts the host, which loads the journals at once. What is kept says before that it may record."""
+        self.own.host_begins()
+        self.served = (True,) * self.world.shards
+        self.kept = self.kept._replace(own=self.own.at(self.kept.records), served=self.served)
         self.has_host = self.is_serving = True
         self.turns.host_loaded()
 
     def end_host(self) -> None:
         self.has_host = self.is_serving = False
+        self.own.host_ended(self.logs())
 
     def reply(self, answer: Answer) -> None:
         if not self.has_host:
@@ -148,7 +179,20 @@ class Node:
     def truncate(self, shard: int, length: int) -> None:
         if self.has_host:
             raise Broken("journals are truncated that a host has open")
+        self.stops_at(lambda: self.own.refuse_cut(self.logs()[shard], length))
         del self.held[shard][length:]
+        self.own.was_cut(self.logs()[shard])
+
+    def logs(self) -> list[Log]:
+        counts = enumerate(self.said[: self.world.shards])
+        return [Log(shard, f"journal {shard}", count, len(self.held[shard])) for shard, count in counts]
+
+    def stops_at(self, look: Callable[[], None]) -> None:
+        """Takes a look at the journals that a machine stops by. None does while the stream has all that it had."""
+        try:
+            look()
+        except Refusal as refusal:
+            raise (LostEnd if self.world.has_lost else Broken)(str(refusal)) from refusal
 
     def count_to(self, shard: int, number: int) -> None:
         """The rule says what counts: as the rule in words has it, each change once, and what the journal has."""
@@ -171,7 +215,10 @@ class Node:
                 raise Broken(f"the rule says that {said} count, where {self.count.barrier}, {self.count.records} do")
 
     def keep(self) -> None:
-        self.kept = Kept(self.position, self.count.barrier, tuple(self.count.records))
+        counts = tuple(self.count.records)
+        beyond = [len(records) > count for records, count in zip(self.held, counts)]
+        self.served = tuple(self.has_host or has and more for has, more in zip(self.served, beyond))
+        self.kept = Kept(self.position, self.count.barrier, counts, self.own.at(counts), self.served)
 
     def new_name(self) -> str:
         self.names += 1
@@ -236,7 +283,8 @@ class Node:
         replies = self.turns.waiting.items()
         answers = tuple((number, getattr(reply, "args")) for number, reply in replies)
         journals = tuple(tuple(records) for records in self.held)
-        here = self.position, self.kept, self.is_in_line, self.has_host
+        ends = None if self.own.ends is None else tuple(self.own.ends)
+        here = self.position, self.kept, ends, self.is_in_line, self.has_host
         told = self.turns.state, self.turns.barrier, tuple(self.turns.known), answers, self.rule.state()
         return (journals, tuple(self.written), *here, *told)
 
@@ -251,11 +299,15 @@ class World:
         shards: int = 1,
         macs: Opener = MessageMacs(STREAM, [KEY]),
         turns: type[RuleTurns] = RuleTurns,
+        own: type[OwnRecords] = OwnRecords,
     ) -> None:
-        self.new_rule, self.turns = new_rule, turns
+        self.new_rule, self.turns, self.own = new_rule, turns, own
         self.shards = shards
         self.macs = macs
         self.stream: list[Body] = []
+        # Whether it lost its end, and the machines that do nothing since.
+        self.has_lost = False
+        self.away: set[int] = set()
         self.replies: dict[str, str] = {}
         # Reads each message as the broker takes it.
         self.truth = Count()
@@ -297,6 +349,15 @@ class World:
             if record.place != len(self.history[record.shard]):
                 raise Broken(f"{record} counts behind {len(self.history[record.shard])} records")
             self.history[record.shard].append(record)
+
+    def lose_end(self, length: int) -> None:
+        """All machines are killed, and the stream has so many messages when they begin again."""
+        bodies, self.stream, self.has_lost = self.stream[:length], [], True
+        self.truth, self.history = Count(), [[] for _ in range(self.shards)]
+        for body in bodies:
+            self.append(body)
+        for node in self.nodes:
+            node.written.clear()
 
     def take_twice(self, node: Node) -> None:
         """The broker takes a message, and will take it once more."""
@@ -363,8 +424,8 @@ class World:
 
     def check(self) -> None:
         """Each machine's journals begin with what counts of what it has read."""
-        for node in self.nodes:
-            for shard in range(self.shards):
+        for node, shard in itertools.product(self.nodes, range(self.shards)):
+            if node.number not in self.away:
                 count = node.count.records[shard]
                 if node.held[shard][:count] != self.history[shard][:count]:
                     raise Broken(f"the journal of machine {node.number} isn't the history that it has read")
