@@ -67,8 +67,9 @@ WHOLE_UNITS = (
 # Drop-ins of the units: for keys at rest, and for journals with a disk of their own.
 DROP_INS = ("encrypted-configuration.conf", "own-disk.conf", "token.conf")
 MANUALS = ("issuer.1", "issuer-journal.5", "issuer-deploy.8", "issuer-gateway.8")
-# All pages: each points to others.
-PAGES = (*sorted(name for name in os.listdir(os.path.join(HOME, "docs")) if name.endswith(".md")), "CHANGELOG.md")
+# All pages: each points to others, and one to the list of faults.
+FOUND = sorted(name for name in os.listdir(os.path.join(HOME, "docs")) if name.endswith(".md"))
+PAGES = (*FOUND, "faults.txt", "CHANGELOG.md")
 
 
 class PackageOptions(NamedTuple):

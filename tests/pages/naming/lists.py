@@ -15,6 +15,8 @@ CHANGES = "CHANGELOG.md"
 MAP = "docs/MAP.md"
 DECISIONS = "docs/decisions/README.md"
 MACHINES, BELIEVED = "docs/MACHINES.md", "## What is believed"
+# Pages that a reader of the site reads in a row.
+READ = ("README.md", "CONTRIBUTING.md", "docs/*.md", "docs/decisions/*.md", "deploy/*.md")
 # The script of a check that a row of what is believed names without one.
 OF_RULE = "tests/machines/replication"
 # What stands in such a row for a fact that no test can show, with what to do in its place.
@@ -100,6 +102,17 @@ def decisions_have_their_form(tally: Tally) -> None:
         tally.expect(text.split("\n")[0], f"# {listed.get(name)}", f"docs/decisions/{name}: its title, as listed")
         heads = re.findall(r"(?m)^\*\*(\w+)\.\*\*", text)
         tally.expect(heads, ["Context", "Choice", "Consequence"], f"docs/decisions/{name}: its parts")
+
+
+def sections_are_linked(tally: Tally) -> None:
+    """No page names a section of a page by its title in quotation marks: a link to its anchor can be checked."""
+    pages = {path: text_of(path) for pattern in READ for path in found(pattern)}
+    titles = {title for text in pages.values() for title in re.findall(r"(?m)^#+ (\S+ .*)$", text)}
+    for path, text in pages.items():
+        for quoted in re.finditer(r'"([^"]{3,90})"', text):
+            title = " ".join(quoted[1].split()).rstrip(".,")
+            line = text.count("\n", 0, quoted.start()) + 1
+            tally.holds(title not in titles, f"{path}:{line}: link to the section {title!r} by its anchor")
 
 
 def rows_of_map(heading: str) -> dict[str, set[str]]:
