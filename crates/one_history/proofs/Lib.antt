@@ -10,3 +10,4 @@ pub mod Making
 pub mod Reading
 pub mod Runs
 pub mod KeptPromises
+pub mod Following

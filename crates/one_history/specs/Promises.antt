@@ -1,9 +1,9 @@
 -- What holds after every run of machines over one stream.
-use Rattle.std.specs.Prelude.{◌≡◌, ◌≢◌, ℕ, ◌<◌, ◌≤◌, List, [], length, slice_get, Some, Contains}
+use Rattle.std.specs.Prelude.{◌≡◌, ◌≢◌, Bool, false, ℕ, ◌<◌, ◌≤◌, List, [], length, slice_get, Some, Contains}
 use Rattle.one_history.specs.Prefixes.{IsPrefix}
-use Rattle.one_history.specs.Streams.{Text, Word, Barrier}
+use Rattle.one_history.specs.Streams.{Text, Word, Barrier, is_word}
 use Rattle.one_history.specs.Machines.{Answer, up_to, Serves, World, count_at, count_of}
-use Rattle.one_history.specs.Events.{Successors, IsLegal}
+use Rattle.one_history.specs.Events.{Successors, IsLegal, Event, Write, Intrude, Read, Call, Record, Look, Publish, Hold, Reply, End, Part, Keep, Crash, Copy}
 use Rattle.one_history.specs.Keys.{Keys}
 
 -- a machine serves by this barrier: it has read its own barrier, and none that counts after it
@@ -62,3 +62,29 @@ pub record KeepsReplies (old new : World) : Type 0 where
   pub sent : IsPrefix old.sent new.sent
   pub count : (answer : Answer) → Contains old.sent answer
       → IsPrefix (up_to answer) ((count_of new).histories answer.shard)
+
+-- a machine's journals have nothing but what counts in the whole stream: no host made a record of them that doesn't
+abbrev pub HasOnlyCounted : World → Word → Type 0
+HasOnlyCounted world name =
+    (shard : ℕ) → IsPrefix ((world.machines name).journals shard) ((count_of world).histories shard)
+
+-- the event may bring a record to the machine's journals that it didn't read: of its host, or of another machine's copies
+abbrev pub brings_unread : Word → Event → Bool
+brings_unread name (Write message) = false
+brings_unread name (Intrude message) = false
+brings_unread name (Read other journals) = false
+brings_unread name (Call other number barrier) = false
+brings_unread name (Record other shard text) = is_word name other
+brings_unread name (Look other known) = false
+brings_unread name (Publish other records) = false
+brings_unread name (Hold other answer) = false
+brings_unread name (Reply other answer) = false
+brings_unread name (End other keep) = false
+brings_unread name (Part other) = false
+brings_unread name (Keep other place) = false
+brings_unread name (Crash other keep) = false
+brings_unread name (Copy other source keep) = is_word name other
+
+-- a machine that reads and then has these journals truncates nothing
+pub record CutsNothing (world : World) (name : Word) (journals : ℕ → List Text) : Type 0 where
+  pub grows : (shard : ℕ) → IsPrefix ((world.machines name).journals shard) (journals shard)

@@ -1,10 +1,12 @@
 //! The law of machines over one stream.
-ghost use Rattle.std.specs.Prelude.{◌≡◌, ◌≢◌, ◌+◌, ℕ, Bool, List, [], ◌∷◌, length, All};
+ghost use Rattle.std.specs.Prelude.{◌≡◌, ◌≢◌, ◌+◌, ℕ, Bool, false, List, [], ◌∷◌, length, All};
 ghost use Rattle.one_history.specs.Streams.{Text, Word, Barrier, Indexed, OfBarrier, OfRecords, OfMark, OfNothing};
 ghost use Rattle.one_history.specs.Streams.{Count, CountsNothing, OpensBy, AddsOne};
-ghost use Rattle.one_history.specs.Events.{Event, IsRun, AfterEachRun, end_of, after, CanRead};
+ghost use Rattle.one_history.specs.Machines.{World, new_world};
+ghost use Rattle.one_history.specs.Events.{Event, IsRun, AreAllowed, AfterEachRun, end_of, after, CanRead};
 ghost use Rattle.one_history.specs.Keys.{Keys, IsFirst, Passes};
 ghost use Rattle.one_history.specs.Promises.{IsSafe, KeepsReplies, HasOneReply, MayFallBack, CutsUnanswered};
+ghost use Rattle.one_history.specs.Promises.{HasOnlyCounted, CutsNothing, brings_unread};
 ghost use Rattle.one_history.specs.FirstReply as first_reply;
 
 /// The rule of what counts in a stream, sentence by sentence.
@@ -48,6 +50,20 @@ pub fn machines_make_one_history()
 /// The contract is a theorem on every run under every such rule; the function does nothing.
 pub fn machines_keep_any_rule()
     ensures { (test : ℕ → List Text → Text → Bool) → AfterEachRun (Passes test) (IsSafe (Passes test)) }
+{}
+
+/// A machine whose journals have nothing but what counts truncates none of it, until a host of it records.
+///
+/// So it is at the beginning. Whatever happens then to all machines, it stays so while no host of this machine records
+/// and it isn't begun from copies: also where the machine dies, and reads on from an older position. So where such a
+/// machine would truncate a record, the stream isn't the one that it had read. The function does nothing.
+pub fn who_follows_truncates_nothing()
+    ensures begins { (base : ℕ → List Text) (name : Word) → HasOnlyCounted (new_world base) name }
+    ensures stays { (keys : Keys) (world : World) (name : Word) (events : List Event) → AreAllowed (IsFirst keys) world events
+        → All (λ event. brings_unread name event ≡ false) events → HasOnlyCounted world name
+        → HasOnlyCounted (after world events) name }
+    ensures cuts { (world : World) (name : Word) (journals : ℕ → List Text) → HasOnlyCounted world name
+        → CanRead world name journals → CutsNothing world name journals }
 {}
 
 /// There are runs in which a machine replies: ten events that each world allows, up to the first reply.

@@ -7,5 +7,5 @@ mod law;
 
 pub use law::{
     machines_keep_any_rule, machines_make_one_history, only_the_next_counts,
-    ten_events_reach_a_reply,
+    ten_events_reach_a_reply, who_follows_truncates_nothing,
 };
