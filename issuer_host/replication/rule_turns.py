@@ -134,9 +134,9 @@ class RuleTurns:
     def read(self, text: str, *answers: Answer) -> None:
         """Takes the stream's next message that a node wrote, and what the host has recorded and answered by now.
 
-        A barrier comes without answers: at the turn after it the host may be gone.
+        A barrier comes alone: at the turn after it the host may be gone.
         """
-        self.tell(MessageRead(text), *self.recordings(answers))
+        self.tell(MessageRead(text), *(self.recordings(answers) if answers else ()))
 
     def host_loaded(self) -> None:
         """A host has loaded the journals, which were read to their ends, and has no line yet."""

@@ -2,7 +2,9 @@
 from unittest import mock
 
 from checks import Tally
-from issuer_host.replication.rule_events import State
+from issuer_host.replication.messages import LOGS, NO_BARRIER, Record
+from issuer_host.replication.rule_events import Answered, Beginning, Has, MessageRead, State, Told
+from issuer_host.replication.rule_turns import RuleTurns
 from issuer_host.replication.stream_reader import GATHERED, GATHER_SECONDS, StreamReader
 
 
@@ -52,3 +54,19 @@ def answers_go_to_the_rule_with_records_alone(tally: Tally) -> None:
             goes = state is State.SERVING and text.startswith("records")
             told = (text, (print, (0, 1))) if goes else (text,)
             tally.expect(rule.read.call_args.args, told, f"what is told at {text[:7]}, {state.value}")
+
+
+def a_barrier_is_told_alone(tally: Tally) -> None:
+    """What the journals have beyond what the rule knows goes to it with answers, and not with a barrier."""
+    rule, journals = mock.Mock(), mock.Mock()
+    rule.take.return_value = ()
+    journals.length.side_effect = lambda shard: int(shard == 3)
+    journals.record.side_effect = lambda shard, place: Record(shard, place, "x")
+    turns = RuleTurns(rule, Beginning("m1", NO_BARRIER, (0,) * LOGS), journals, mock.Mock())
+    turns.state = State.SERVING
+    barrier, records = MessageRead("barrier 2 b m2\n"), MessageRead("records a 1\n0 1 x\n")
+    turns.read(barrier.text)
+    tally.expect(rule.take.call_args.args, (barrier,), "what is told with a barrier")
+    turns.read(records.text, (print, (3, 0)))
+    told = (records, Has(Record(3, 0, "x")), Told(), Answered(1, (3, 0)))
+    tally.expect(rule.take.call_args.args, told, "what is told with records")
