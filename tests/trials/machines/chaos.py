@@ -283,8 +283,7 @@ def play(options: Options, machines: "Machines", tally: Tally) -> None:
         seconds = time.monotonic() - began
         check_redundancy(tally, machines, stalls)
         machines.kill_nodes()
-        stalls.waits("all streams are read")
-        check_prefixes(tally, machines)
+        check_prefixes(tally, machines, stalls.waits)
         machines.start_nodes()
         check_equal(tally, machines, waits=stalls.waits)
     machines.end_nodes()

@@ -21,7 +21,9 @@ from trials.bridges.tally import Tally
 from trials.machines.brokers import NODE, comes
 from trials.machines.machines import Machines
 
-PREFETCH = 500
+# So many messages are on their way, and so many acknowledged together: for each acknowledgement the broker reads the
+# stream's file once more.
+PREFETCH, TOGETHER = 500, 100
 READ_SECONDS, QUIET_SECONDS = 120.0, 2.0
 SETTLE_SECONDS = 300.0
 TRIES = 60
@@ -57,7 +59,8 @@ class Reader:
         found: list[Message] = []
 
         def take(channel: Any, method: Any, properties: Any, body: bytes) -> None:
-            channel.basic_ack(method.delivery_tag)
+            if method.delivery_tag % TOGETHER == 0:
+                channel.basic_ack(method.delivery_tag, multiple=True)
             with contextlib.suppress(MessageFault):
                 found.append(message_of(self.macs, body, properties.has_headers))
 
@@ -69,7 +72,8 @@ class Reader:
         while mark not in found[-PREFETCH:]:
             now = time.monotonic()
             if now - began > READ_SECONDS:
-                raise RuntimeError(f"{self.stream} isn't read to its end in {READ_SECONDS:.0f} s")
+                read = f"{len(found)} messages of {self.stream} were read"
+                raise RuntimeError(f"{read}, and its end isn't in {READ_SECONDS:.0f} s")
             if now - written > QUIET_SECONDS:
                 self.write(mark)
                 written = now
@@ -135,9 +139,14 @@ def whole_lines(path: str) -> list[str]:
     return found[:-1] if is_torn else found
 
 
-def check_prefixes(tally: Tally, machines: Machines) -> None:
+def says_nothing(_: str) -> None:
+    """What a wait is for isn't told to anybody."""
+
+
+def check_prefixes(tally: Tally, machines: Machines, waits: Callable[[str], object] = says_nothing) -> None:
     """Each machine's journals are prefixes of what counts, but for records that were in flight."""
     for partition in range(machines.partitions):
+        waits(f"the stream of partition {partition} is read")
         history = history_of(messages_of(machines, partition))
         for number, machine in enumerate(machines.network.machines):
             for shard, lines in journals_of(machines, number, partition, history).items():
@@ -153,10 +162,6 @@ def common_length(some: Sequence[str], others: Sequence[str]) -> int:
         if one != other:
             return at
     return min(len(some), len(others))
-
-
-def says_nothing(_: str) -> None:
-    """What a wait is for isn't told to anybody."""
 
 
 def check_equal(
