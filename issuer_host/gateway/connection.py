@@ -196,9 +196,13 @@ class Connection(asyncio.BufferedProtocol):
         code = message.code
         self.owner.figures.responded(code, self.loop.time() - began)
         if self.transport is not None:
-            if not self.unsent:
-                self.loop.call_soon(self.send)
+            is_first = not self.unsent
             self.unsent.append(self.frame_of(data))
+            if is_first and self.in_flight == 1:
+                # (a peer that waits for nothing else gets its response at once)
+                self.send()
+            elif is_first:
+                self.loop.call_soon(self.send)
         return code
 
     def send(self) -> None:

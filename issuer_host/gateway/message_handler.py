@@ -1,5 +1,7 @@
 """What becomes of a message that a connection has read: a host is asked about it, or it gets its answer at once."""
 
+from __future__ import annotations
+
 import datetime
 from collections.abc import Callable
 from typing import Optional, Protocol

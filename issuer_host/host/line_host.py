@@ -99,7 +99,8 @@ class LineHost:
     def add(self, entry: Entry) -> None:
         """Puts a request to the host, which is started if there is none."""
         self.lines.add(entry)
-        if not self.settings.is_batched:
+        if not self.settings.is_batched or not self.lines.given:
+            # (a host that has nothing to do gets a line at once)
             self.flush()
         elif not self.is_flushing:
             self.flush_soon()
