@@ -19,8 +19,9 @@ from switch.link import Place
 from trials.bridges.private_broker import PrivateBroker, free_port
 from trials.soak.spools import Spool
 
-# Each has 65,536 ATCs: two hours at 400 messages a second take 2,500,000.
-CARDS = 1024
+# A host's memory grows until each card has a window of 256 decisions: of so many cards at 400 messages a second for six
+# minutes. Each has 65,536 ATCs, and two hours take 4,800 of them.
+CARDS = 512
 FIRST_PAN = f"4{0:015d}"
 # A host that loads a million records takes none meanwhile, and what comes then waits for it.
 PATIENCE = ("--seconds", "60", "--in-flight", "65536", "--of-connection", "65536", "--window", "256")
