@@ -7,7 +7,7 @@ from issuer_host.status.state import BrokerState
 
 READY = "rabbitmq_queue_messages_ready"
 QUEUE = "issuer.requests.{}"
-# The plugin's alarms, and their names.
+# The plugin's alarms, and their names: they are at /metrics, and not at /metrics/per-object (seen with 3.10.8).
 ALARMS = {
     "rabbitmq_alarms_free_disk_space_watermark": "disk",
     "rabbitmq_alarms_memory_used_watermark": "memory",

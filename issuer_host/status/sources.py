@@ -2,10 +2,12 @@
 
     m1 http://127.0.0.1:10000/metrics
     m1 http://127.0.0.1:15692/metrics/per-object
+    m1 http://127.0.0.1:15692/metrics
     m2 http://127.0.0.1:11000/metrics
 
 The first URL of a name has the figures of its partitions: if it doesn't answer, the machine doesn't. Others of that
-name may have figures of its broker. An empty line and one that begins with # are passed over.
+name may have figures of its broker: RabbitMQ's plugin has queues at one path, and alarms at the other. An empty line
+and one that begins with # are passed over.
 """
 import re
 from collections.abc import Iterable
