@@ -6,6 +6,7 @@ WITHOUT_PROGRAM = (
     "tests/program/card",
     "tests/program/configuration_check",
     "tests/gateway/parts",
+    "tests/gateway/plans",
     "tests/deployment/deploy --without-program",
     "tests/host/lifecycle",
     "tests/gateway/handling",

@@ -51,6 +51,31 @@ class HostOwner(Protocol):
         """A new start ends with this status too, until a person has acted; or what fails has to pass first."""
 
 
+class SealSteps:
+    """Seals what a run made durable in steps of the loop, a piece of a journal each: so none of them takes long."""
+
+    def __init__(self, loop: Loop, sealing: SealWriter) -> None:
+        self.loop, self.sealing = loop, sealing
+        # The shards that are still to be sealed at this look.
+        self.left: list[int] = []
+
+    def begin(self) -> None:
+        """A look at the run: what came since the last one is sealed, unless that one isn't done."""
+        if not self.left:
+            self.left = list(self.sealing.durable)
+            self.go_on()
+
+    def go_on(self) -> None:
+        if self.left and not self.sealing.look_at(self.left[0]):
+            del self.left[0]
+        if self.left:
+            self.loop.call_later(SEAL_SECONDS, self.go_on)
+
+    def end(self) -> None:
+        """The run has ended."""
+        self.left = []
+
+
 class Supervisor:
     """A partition's host, one run after another."""
 
@@ -75,8 +100,7 @@ class Supervisor:
         # The journals that the first run loaded: no run of this process goes on over other files.
         self.files = FirstJournals(journal)
         self.sealing = SealWriter(journal, name)
-        # The shards of this run that are still to be sealed at this look.
-        self.unsealed: list[int] = []
+        self.seal_steps = SealSteps(loop, self.sealing)
         # Whether a host is started as soon as it may be.
         self.is_needed = False
         # How many waits were begun: an earlier one counts for nothing.
@@ -168,7 +192,7 @@ class Supervisor:
             return
         self.waits += 1
         self.owed = 0
-        self.sealing, self.unsealed = sealing, []
+        self.sealing, self.seal_steps = sealing, SealSteps(self.loop, sealing)
         self.lifecycle.started(self.clock(), limits_of(self.journal))
         self.owner.started()
         self.put(PROBE)
@@ -226,6 +250,7 @@ class Supervisor:
     def clear(self) -> None:
         """The run has ended: what it made durable is sealed."""
         self.owed = 0
+        self.seal_steps.end()
         self.sealing.look()
         self.sealing.end()
 
@@ -238,21 +263,10 @@ class Supervisor:
         """A look at the run each second."""
         if run is not self.run:
             return
-        if not self.unsealed:
-            self.unsealed = list(self.sealing.durable)
-            self.seal_on(run)
+        self.seal_steps.begin()
         sight = self.files.look()
         self.act(self.lifecycle.look(self.clock(), self.owed > 0, sight))
         self.look_later(run)
-
-    def seal_on(self, run: HostProcess) -> None:
-        """Seals a piece of the next journal, and goes on in a moment: so no step of the loop takes long."""
-        if run is not self.run or not self.unsealed:
-            return
-        if not self.sealing.look_at(self.unsealed[0]):
-            del self.unsealed[0]
-        if self.unsealed:
-            self.loop.call_later(SEAL_SECONDS, lambda: self.seal_on(run))
 
     @staticmethod
     def clock() -> float:
