@@ -7,8 +7,6 @@ import uuid
 from collections.abc import Callable, Mapping
 from typing import NamedTuple
 
-import pika
-
 from issuer_host.broker import topology
 from issuer_host.facts.paths import HOME
 from issuer_host.replication.message_mac import MessageMacs
@@ -16,7 +14,7 @@ from issuer_host.replication.messages import Barrier
 from machines.message_texts import Records
 from trials.machines.accidents import ACCIDENTS
 from trials.machines.brokers import NODE, wait_for
-from trials.machines.history import Reader, last_barrier, next_record
+from trials.machines.history import AWAY_FAULTS, Reader, last_barrier, next_record
 from trials.machines.machines import Machines
 from trials.machines.network import Machine
 from trials.machines.replacing import MachineReplacement
@@ -282,7 +280,7 @@ def write_by_any(machines: Machines, write: Callable[[str], object]) -> None:
         try:
             write(file)
             return
-        except (pika.exceptions.AMQPError, OSError, RuntimeError):
+        except (*AWAY_FAULTS, RuntimeError):
             time.sleep(1.0)
     raise RuntimeError("the stream can't be written")
 

@@ -7,6 +7,7 @@ from collections.abc import Callable, Sequence
 from typing import Any
 
 import pika
+from pika.adapters.utils.connection_workflow import AMQPConnectorException
 
 from issuer_host.broker import topology
 from issuer_host.broker.wire import decode_no_headers
@@ -30,6 +31,8 @@ TRIES = 60
 # Records that a machine may have written, and that aren't in the stream, when its power goes: what is in flight.
 IN_FLIGHT = 128
 
+# What says that a broker is away, or that it doesn't answer in time. (The last is no error of AMQP to pika.)
+AWAY_FAULTS = (pika.exceptions.AMQPError, OSError, AMQPConnectorException)
 History = dict[int, list[str]]
 
 
@@ -95,7 +98,7 @@ def messages_of(machines: Machines, partition: int) -> list[Message]:
                 return reader.read()
             finally:
                 reader.close()
-        except (pika.exceptions.AMQPError, OSError):
+        except AWAY_FAULTS:
             time.sleep(1.0)
     raise RuntimeError(f"the stream of partition {partition} can't be read")
 
