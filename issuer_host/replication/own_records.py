@@ -27,10 +27,17 @@ Ends = Optional[Sequence[int]]
 class Log(Protocol):
     """A shard's journal, or the notes."""
 
-    number: int
-    path: str
-    # How many of its records count.
-    count: int
+    @property
+    def number(self) -> int:
+        """Which log it is."""
+
+    @property
+    def path(self) -> str:
+        """Its file."""
+
+    @property
+    def count(self) -> int:
+        """How many of its records count."""
 
     def total(self) -> int:
         """Returns how many records it has."""
@@ -47,7 +54,7 @@ class OwnRecords:
         before = self.ends
         self.host_ended(logs)
         if before is not None and self.ends is not None:
-            self.ends = list(map(min, before, self.ends))
+            self.ends = [min(pair) for pair in zip(before, self.ends)]
 
     def host_begins(self) -> None:
         """From now on a host may record."""

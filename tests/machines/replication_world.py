@@ -81,13 +81,12 @@ class Kept(NamedTuple):
     served: tuple[bool, ...]
 
 
-class Log(NamedTuple):
+class Log:
     """A shard's journal, as it is asked for what may be a host's."""
 
-    number: int
-    path: str
-    count: int
-    length: int
+    def __init__(self, number: int, count: int, length: int) -> None:
+        self.number, self.count, self.length = number, count, length
+        self.path = f"journal {number}"
 
     def total(self) -> int:
         return self.length
@@ -185,7 +184,7 @@ class Node:
 
     def logs(self) -> list[Log]:
         counts = enumerate(self.said[: self.world.shards])
-        return [Log(shard, f"journal {shard}", count, len(self.held[shard])) for shard, count in counts]
+        return [Log(shard, count, len(self.held[shard])) for shard, count in counts]
 
     def stops_at(self, look: Callable[[], None]) -> None:
         """Takes a look at the journals that a machine stops by. None does while the stream has all that it had."""
