@@ -13,8 +13,9 @@ def times_written_again(state: State, heard: str, every: float, seconds: float) 
     """How often a machine in this state writes again what it never hears, while it hears this text every so often."""
     clock = mock.Mock()
     clock.monotonic.return_value = 0.0
-    rule = mock.Mock(state=state)
-    reader = StreamReader(mock.Mock(), mock.Mock(), mock.Mock(is_compared=True), mock.Mock(), rule, mock.Mock())
+    rule, watcher = mock.Mock(state=state), mock.Mock()
+    watcher.answered.return_value = ()
+    reader = StreamReader(mock.Mock(), mock.Mock(), mock.Mock(is_compared=True), mock.Mock(), rule, watcher)
     with mock.patch.object(stream_reader, "time", clock):
         reader.open(None)
         reader.write("mark own\n")
