@@ -41,7 +41,7 @@ def main() -> int:
         if processor > LEAST_SECONDS:
             steps.append(Step(began, processor, time.monotonic() - began, repr(handle)))
 
-    asyncio.events.Handle._run = timed  # type: ignore[method-assign]
+    setattr(asyncio.events.Handle, "_run", timed)
     try:
         return int(gateway(sys.argv[1:]))
     finally:

@@ -70,7 +70,9 @@ def why_no_site() -> str:
 def copy_pages(to: str) -> None:
     """Copies the pages with their paths, and has those written that are made of the tree."""
     shutil.rmtree(to, ignore_errors=True)
-    for path in (path for pattern in COPIED for path in sorted(glob.glob(pattern, root_dir=HOME))):
+    for path in (
+        os.path.relpath(found, HOME) for pattern in COPIED for found in sorted(glob.glob(os.path.join(HOME, pattern)))
+    ):
         copy = os.path.join(to, path)
         os.makedirs(os.path.dirname(copy), exist_ok=True)
         shutil.copyfile(os.path.join(HOME, path), copy)
