@@ -61,7 +61,7 @@ class TripleDesCards:
 
 
 class AesCards:
-    """Keys and cryptograms of cards with keys for AES (docs/FORMATS.md, cryptograms)."""
+    """Keys and cryptograms of cards with keys for AES (docs/formats/cryptograms-and-scripts.md)."""
 
     identifier = "A6"
 

@@ -1,6 +1,6 @@
 """The Python around the program, as one package of subpackages. Each imports only from those before it in `INSTALLED`.
 
-docs/MAP.md has the subpackages, a row for each of their modules, and where to look for what.
+docs/develop/map.md has the subpackages, a row for each of their modules, and where to look for what.
 
 A command stays where users call it, and is a few lines over a module here. It puts the package's home on its path:
 

@@ -8,7 +8,7 @@ import sys
 from collections.abc import Sequence
 from typing import NamedTuple
 
-from issuer_host.facts.paths import BUILD, HOME
+from issuer_host.facts.paths import BUILD, HOME, PAGES_OF_DOCS
 from issuer_host.launcher.messages import complain, stop, tell
 
 # What is copied, with its path: the pages, and what they show or link to.
@@ -17,9 +17,8 @@ COPIED = (
         "*.md",
         "LICENSE",
         "NOTICE",
-        "docs/*.md",
-        "docs/faults.txt",
-        "docs/decisions/*.md",
+        *PAGES_OF_DOCS,
+        "docs/assurance/faults.txt",
         "docs/plots/*",
         "deploy/*.md",
     ),

@@ -1,4 +1,4 @@
-"""What each member of a configuration has to be, as docs/FORMATS.md has it: a table that faults are found by."""
+"""What each member of a configuration has to be (docs/formats/configuration.md), as the table that finds faults."""
 from __future__ import annotations
 
 import json

@@ -132,7 +132,7 @@ TABLE = (
     ),
     Command(
         "pin",
-        "prints the request line that queues a new PIN for a card; docs/SECURITY.md says who else can see the words",
+        "prints the request line that queues a new PIN for a card; docs/assurance/threats.md says who can see it",
         (CONFIG, PAN, PSN, DKI, SALT, PIN),
     ),
 )

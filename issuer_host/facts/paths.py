@@ -5,6 +5,10 @@ from typing import NamedTuple
 # The folder that holds this package: the top of the tree, or the folder of an installed copy.
 HOME = os.path.dirname(os.path.dirname(os.path.dirname(os.path.realpath(__file__))))
 
+# The folders of docs/ by who reads them, and in them the pages, by patterns from HOME.
+PAGE_FOLDERS = ("start", "integrate", "operate", "formats", "assurance", "develop")
+PAGES_OF_DOCS = (*(f"docs/{folder}/*.md" for folder in PAGE_FOLDERS), "docs/develop/decisions/*.md")
+
 # Where `./issuer prove` leaves the programs and the record of their proof. An installed copy has the same files.
 BUILD = os.path.join(HOME, ".build")
 RECORD = os.path.join(BUILD, "issuer.proved")

@@ -77,7 +77,7 @@ MEANINGS = {
     ),
     Status.JOURNAL_WRONG: Meaning(
         "a line of a journal is no valid record under this configuration: see `A journal that doesn't load` in"
-        " docs/FORMATS.md",
+        " docs/formats/journals.md",
         "is {config} the configuration of these journals? Under it line {second} of shard {first}'s journal {new} is"
         " no record, none that may come there, or no copy of the old journal's",
         numbers=2,
@@ -106,7 +106,7 @@ MEANINGS = {
     ),
     Status.BAD_FEED: Meaning(
         "a line of the feed is no feed line, or has a record that may not come next: see `A standby` in"
-        " docs/OPERATIONS.md",
+        " docs/operate/standby.md",
         "line {first} of the feed {lines} is no feed line, names no shard of {config}, or has a record that may not"
         " come next in its shard: was the feed made under another configuration, or by a host that decided otherwise?"
         " What was taken before is in the journals",

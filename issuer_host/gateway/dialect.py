@@ -1,7 +1,7 @@
 """What a dialect of ISO 8583 means: plain data, by which codec, frames and sessions are made.
 
-`dialect_file` reads it from a file, and docs/DIALECTS.md has the file's members. Each element has all that its bytes
-depend on in its `Format`: nothing else of a dialect changes them.
+`dialect_file` reads it from a file, and docs/integrate/dialects.md has the file's members. Each element has all that
+its bytes depend on in its `Format`: nothing else of a dialect changes them.
 """
 
 from __future__ import annotations
@@ -109,10 +109,10 @@ class Network(NamedTuple):
 class Dialect:
     """A dialect.
 
-    `echo` are the elements that a response has from its request. `declines` has the statuses by which the host declines
-    what the account does, by the code in element 39 of the request; `codes` the link's own codes in element 39 of
-    responses, by those of docs/INTEGRATION.md. `advices` says what is acknowledged. Where `is_converted`, the link may
-    have converted element 4.
+    `echo` are the elements that a response has from its request. `declines` has the statuses by which the host
+    declines what the account does, by the code in element 39 of the request; `codes` the link's own codes in element
+    39 of responses, by those of docs/integrate/iso8583.md. `advices` says what is acknowledged. Where `is_converted`,
+    the link may have converted element 4.
     """
 
     name: str

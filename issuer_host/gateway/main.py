@@ -31,15 +31,16 @@ partition's number goes. By the second form the hosts are behind the broker that
                  with =DIALECT for another one's codes than those of 1987-ascii. Other addresses than the loopback
                  need --http-anywhere
 --account        where the account is asked of each request: unix:PATH, or http://127.0.0.1:PORT/PATH; nowhere if it is
-                 left out. docs/ACCOUNT.md has what it is asked and told
+                 left out. docs/integrate/account.md has what it is asked and told
 --account-milliseconds
                  how long it may take (500); --account-silent what becomes of a request if it takes longer: decline, or
                  table: the host decides by its table alone (decline)
 --account-order  account-first, or cryptogram-first: then it is asked of what the host approved (account-first)
 --figures        the port of Prometheus' figures on the loopback; none where it is 0 (0)
 
-docs/INTEGRATION.md says what becomes of each message. At SIGTERM it answers what it has taken, and ends with 0. It ends
-with a host's status if no host can be started, with 64 if its own arguments don't fit, and with 75 after what passes.
+docs/integrate/iso8583.md says what becomes of each message. At SIGTERM it answers what it has taken, and ends with 0.
+It ends with a host's status if no host can be started, with 64 if its own arguments don't fit, and with 75 after what
+passes.
 """
 
 import argparse

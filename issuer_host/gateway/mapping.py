@@ -1,4 +1,4 @@
-"""The tables of docs/INTEGRATION.md as data: what becomes of a message's elements, and of an answer.
+"""The tables of docs/integrate/iso8583.md as data: what becomes of a message's elements, and of an answer.
 
 `tests/gateway/parts` compares page and code.
 """

@@ -2,7 +2,7 @@
 import math
 import os
 
-# Processor seconds of a build and its run, by two processes at once: measured, docs/MEASURED.md.
+# Processor seconds of a build and its run, by two processes at once: measured, docs/assurance/measured.md.
 PROCESSOR_SECONDS = 64.0
 PROCESSES = 2
 

@@ -26,7 +26,7 @@ An example:
 Until ./issuer prove has ended, a build without proofs answers. Each run makes it anew: in a minute on a
 quiet machine, in five or more on a busy one.
 `rt ci` is the gate: it proves every crate, and runs the tests and the program.
-docs/TUTORIAL.md takes one card through; docs/FORMATS.md has the texts of all files, answers and statuses.
+docs/start/tutorial.md takes one card through; docs/formats has the texts of all files, answers and statuses.
 """
 
 

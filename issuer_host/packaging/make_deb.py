@@ -23,7 +23,7 @@ from typing import NamedTuple
 
 from issuer_host import INSTALLED
 from issuer_host.facts import version
-from issuer_host.facts.paths import BUILD, HOME, HOST, PROGRAMS
+from issuer_host.facts.paths import BUILD, HOME, HOST, PAGES_OF_DOCS, PROGRAMS
 from issuer_host.facts.proof import is_proved, read_record
 from issuer_host.facts.refusal import Refusal, tell
 from issuer_host.launcher.proved_program import why_changed
@@ -68,8 +68,11 @@ WHOLE_UNITS = (
 DROP_INS = ("encrypted-configuration.conf", "own-disk.conf", "token.conf")
 MANUALS = ("issuer.1", "issuer-journal.5", "issuer-deploy.8", "issuer-gateway.8")
 # All pages: each points to others, and one to the list of faults.
-FOUND = sorted(name for name in os.listdir(os.path.join(HOME, "docs")) if name.endswith(".md"))
-PAGES = (*FOUND, "faults.txt", "CHANGELOG.md")
+DOCS = os.path.join(HOME, "docs")
+FOUND = sorted(
+    os.path.relpath(path, DOCS) for pattern in PAGES_OF_DOCS for path in glob.glob(os.path.join(HOME, pattern))
+)
+PAGES = (*FOUND, "assurance/faults.txt", "CHANGELOG.md")
 
 
 class PackageOptions(NamedTuple):
@@ -160,7 +163,7 @@ def add_commands(tree: Tree) -> None:
 
 def path_of_page(name: str) -> str:
     """Returns where a page of the package lies in the tree: in docs, or at the top."""
-    path = os.path.join(HOME, "docs", name)
+    path = os.path.join(DOCS, name)
     return path if os.path.exists(path) else os.path.join(HOME, name)
 
 

@@ -17,7 +17,7 @@ KEY = re.compile(r"(?:[0-9A-Fa-f]{2}){32,256}")
 MAX_KEYS = 4
 MAX_BYTES = 4096
 FINGERPRINT_DIGITS = 16
-PAGE = 'docs/MACHINES.md, "The cluster\'s key", says how to make and change it'
+PAGE = 'docs/operate/three-machines.md, "The cluster\'s key", says how to make and change it'
 
 
 class ClusterKeys(NamedTuple):

@@ -21,7 +21,7 @@ their journals, and go on where it ends. No reply is sent before its record coun
          streams
 
 NODE.json  the machine's name, the files with the broker's URL and with the cluster's key, and the partitions;
-           docs/FORMATS.md has its members
+           docs/formats/streams.md has its members
 
 Each change of a partition is a line of the error output: `node: partition N: STATE`, and why. STATE is away (no
 connection), reading (what was written meanwhile), waiting (in the line of the queue's consumers), beginning (its

@@ -18,7 +18,7 @@ from issuer_host.replication.messages import LOGS
 # What a person does where a stream lost its end.
 ANEW = (
     "begin it anew from the journals of the machine that served last, which need not be the longest ones: deploy/node"
-    " --anew finds that machine, and docs/OPERATIONS.md has the steps"
+    " --anew finds that machine, and docs/operate/nodes.md has the steps"
 )
 # Of each log: from which index on its records were read in the stream. None: no record beyond what counts need be.
 Ends = Optional[Sequence[int]]

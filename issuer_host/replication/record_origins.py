@@ -4,7 +4,7 @@ from typing import NamedTuple, Optional
 
 from issuer_host.facts.refusal import Refusal
 
-PAGE = 'docs/OPERATIONS.md, "A record that a machine refuses"'
+PAGE = 'docs/operate/nodes.md, "A record that a machine refuses"'
 
 
 class Origin(NamedTuple):

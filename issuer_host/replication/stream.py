@@ -38,7 +38,8 @@ REASON = 160
 # What a person does.
 COPY = "copy another machine's journals by deploy/node --copy"
 KEY = (
-    "give this machine the cluster's keys, or begin a stream anew that was written without them; docs/MACHINES.md has"
+    "give this machine the cluster's keys, or begin a stream anew that was written without them;"
+    " docs/operate/three-machines.md has"
     ' both, in "The cluster\'s key"'
 )
 

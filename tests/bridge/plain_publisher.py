@@ -1,5 +1,5 @@
 #!/usr/bin/env python3
-"""Asks a host behind a broker by pika alone: a client that was written from docs/FORMATS.md.
+"""Asks a host behind a broker by pika alone: a client that was written from docs/formats/streams.md.
 
 usage: tests/bridge/plain_publisher.py URL PARTITIONS [KEY] < LINES     (URL with USER:PASSWORD; KEY in hexadecimal)
 

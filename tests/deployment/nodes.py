@@ -84,7 +84,9 @@ def starts_with_a_key_of_its_own_alone(tally: Tally) -> None:
     wrong = ("", "\n", right[:-2], right[:-1], f"{right}\r\n", f"{right}\n\n", f"{right}\n{right}\n", right + " ")
     with new_host(tally) as host:
         path, key = written(host, node_of(host)), f"{host.folder}/cluster-key"
-        is_refused(tally, run(tally, "node", path), "no key", "cluster-key can't be read", "docs/MACHINES.md")
+        is_refused(
+            tally, run(tally, "node", path), "no key", "cluster-key can't be read", "docs/operate/three-machines.md"
+        )
         for text in (*wrong, "".join(f"{number:064x}\n" for number in range(5))):
             write_text(host.folder, "cluster-key", text)
             os.chmod(key, 0o600)
@@ -487,7 +489,7 @@ def refuses_a_record_that_is_none(tally: Tally) -> None:
                 f"{record} is refused: {said}",
             )
             tally.holds(
-                "stop 11 1" in said and "docs/OPERATIONS.md" in said, f"what standby said, and what to do: {said}"
+                "stop 11 1" in said and "docs/operate/nodes.md" in said, f"what standby said, and what to do: {said}"
             )
         journals = files_of(host).journals
         try:

@@ -180,9 +180,10 @@ def alerts_have_the_programs_numbers(tally: Tally) -> None:
     below = re.findall(r"ATC was (\d+) or more below", text)
     tally.expect(below, [str(WINDOW)], "how far an ATC is below its card's greatest")
     limit = re.search(
-        r"(?m)^\| window of transaction counters \| (\d+);", content_of(os.path.join(HOME, "docs/FORMATS.md"))
+        r"(?m)^\| window of transaction counters \| (\d+);",
+        content_of(os.path.join(HOME, "docs/formats/words-and-statuses.md")),
     )
-    tally.expect(limit and limit[1], str(WINDOW), "the window in docs/FORMATS.md")
+    tally.expect(limit and limit[1], str(WINDOW), "the window in docs/formats/words-and-statuses.md")
     statuses = [str(int(status)) for status in sorted(NOT_RESTARTED)]
     said = re.findall(r"a status ([0-9, or]+) needs you", text)
     tally.expect([re.findall(r"\d+", one) for one in said], [statuses], "the statuses that need a person")

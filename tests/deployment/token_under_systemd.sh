@@ -1,6 +1,6 @@
 #!/bin/bash
 # What tests/deployment/systemd runs inside its container: the units with keys that a token wraps, by the commands of
-# docs/KEYS.md, "Under the units"; then the search of all that was written for these keys.
+# docs/operate/keys.md, "Under the units"; then the search of all that was written for these keys.
 . "${0%/*}/in_container.sh" || exit 64
 cd /root || exit
 

@@ -485,7 +485,7 @@ class Room:
         return next(machine for machine in self.machines if machine.name == name)
 
     def begin_anew(self, number: int, chosen: Machine) -> None:
-        """Begins a stream anew from a machine's journals, as docs/OPERATIONS.md says."""
+        """Begins a stream anew from a machine's journals, as docs/operate/nodes.md says."""
         self.make_anew(number)
         for machine in self.machines:
             os.remove(f"{machine.journal(number)}.position")

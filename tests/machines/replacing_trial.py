@@ -22,7 +22,7 @@ from trials.machines.network import Machine
 PARTITIONS = 2
 ASKED, ANSWER_SECONDS = 20, 300.0
 SETTLE_SECONDS = 240.0
-PAGE = os.path.join(HOME, "docs", "MACHINES.md")
+PAGE = os.path.join(HOME, "docs/operate/three-machines.md")
 REPLACE = os.path.join(HOME, "deploy", "replace")
 REPLACES = re.compile(r"\*\*Replace a machine\*\*(.*?)\n(?:\*\*|## )", re.DOTALL)
 DONE = "three of three: "
@@ -73,7 +73,7 @@ def begun(program: str, tick: int, tally: Tally, is_watched: bool = False) -> It
 
 
 def commands_of_page() -> list[str]:
-    """Returns the commands by which docs/MACHINES.md replaces a machine."""
+    """Returns the commands by which docs/operate/three-machines.md replaces a machine."""
     with open(PAGE, encoding="utf-8") as text:
         found = REPLACES.search(text.read() + "\n## ")
     assert found is not None

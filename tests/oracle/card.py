@@ -1,7 +1,7 @@
 """A card: its transactions, its check of the issuer's answer, and the script commands that it runs.
 
 They are those of EMV 4.3 Book 2, 8 and 9, and Book 3, 6.5. What the card reports to its issuer in the issuer
-application data is this project's profile, and so is all of AES (docs/FORMATS.md).
+application data is this project's profile, and so is all of AES (docs/formats/cryptograms-and-scripts.md).
 """
 from typing import Any
 

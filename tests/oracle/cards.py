@@ -1,6 +1,7 @@
 """What issuer and card compute for a transaction: cryptograms, issuer authentication and sealed script commands.
 
-For triple DES it is that of EMV 4.3 Book 2, 8 and 9; for AES this project's profile (docs/FORMATS.md).
+For triple DES it is that of EMV 4.3 Book 2, 8 and 9; for AES this project's profile
+(docs/formats/cryptograms-and-scripts.md).
 """
 from functools import lru_cache
 

@@ -1,4 +1,4 @@
-"""Request lines and their chip data (BER-TLV, EMV 4.3 Book 3, Annex B; fields and refusals by docs/FORMATS.md)."""
+"""Request lines and their chip data (BER-TLV, EMV 4.3 Book 3, Annex B; fields and refusals: docs/formats/lines.md)."""
 import re
 from collections.abc import Iterator
 from typing import NamedTuple

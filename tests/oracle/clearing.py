@@ -1,6 +1,6 @@
 """The clearing check: transaction certificates (TC) held against the decisions of the journals.
 
-docs/FORMATS.md has the forms of the lines and of the verdicts.
+docs/formats/lines.md has the forms of the lines and of the verdicts.
 """
 from oracle.chip_data import Ask, Refused, Request, read_line, read_request
 from oracle.host import Host, Reply

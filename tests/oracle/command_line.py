@@ -1,4 +1,4 @@
-"""The program's words, statuses and last lines (docs/FORMATS.md, words and statuses)."""
+"""The program's words, statuses and last lines (docs/formats/words-and-statuses.md)."""
 import re
 from collections.abc import Callable, Iterator
 from typing import BinaryIO

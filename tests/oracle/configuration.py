@@ -1,4 +1,4 @@
-"""The configuration: JSON (RFC 8259) with the limits of docs/FORMATS.md, and its first broken place."""
+"""The configuration: JSON (RFC 8259) with the limits of docs/formats/configuration.md, and its first broken place."""
 import json
 import re
 from collections.abc import Callable

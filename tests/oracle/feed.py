@@ -1,4 +1,4 @@
-"""Feeds: records of journals as lines with shard and index, and the standby that takes them (docs/FORMATS.md)."""
+"""Feeds: records of journals as lines with shard and index, and the standby that takes them (docs/formats)."""
 import re
 
 from oracle.host import WINDOW, Host

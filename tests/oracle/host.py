@@ -1,6 +1,6 @@
 """The host: what it answers to each line, and what its records say of each card.
 
-docs/FORMATS.md has the answers, and the rules of script commands.
+docs/formats/lines.md has the answers, and the rules of script commands.
 """
 from collections.abc import Callable
 from typing import NamedTuple

@@ -1,4 +1,4 @@
-"""Journal lines, and the files that keep them: version 2, and the old version 1 (docs/FORMATS.md, journal lines)."""
+"""Journal lines, and the files that keep them: version 2, and the old version 1 (docs/formats/journals.md)."""
 import os
 import re
 from typing import BinaryIO

@@ -1,6 +1,7 @@
 """PIN changes: EMV 4.3 Book 3, 6.5.10.
 
-The PIN block is that of ISO 9564-1, format 2, enciphered under a key of this project's profile (docs/FORMATS.md).
+The PIN block is that of ISO 9564-1, format 2, enciphered under a key of this project's profile
+(docs/formats/cryptograms-and-scripts.md).
 """
 import re
 

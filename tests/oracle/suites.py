@@ -1,6 +1,6 @@
 """The suites: triple DES with the MAC of ISO/IEC 9797-1, and AES-128 with CMAC. A card's keys are of one of them.
 
-What cards with AES compute is this project's profile (docs/FORMATS.md, cryptograms).
+What cards with AES compute is this project's profile (docs/formats/cryptograms-and-scripts.md).
 """
 from enum import Enum
 

@@ -1,6 +1,6 @@
 """Cards at terminals, a network that loses and spoils, and their issuer's host: what `world` counts.
 
-docs/FORMATS.md says what each count is.
+docs/formats/lines.md says what each count is.
 """
 from oracle.card import Card, commands_in
 from oracle.chip_data import Request, objects

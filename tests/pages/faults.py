@@ -1,4 +1,4 @@
-"""Reads docs/faults.txt: each fault with the clause that rules it out, its edits and its tests.
+"""Reads docs/assurance/faults.txt: each fault with the clause that rules it out, its edits and its tests.
 
 A section begins with `= TITLE`; lines that follow at once are its note. A fault is a paragraph: its first lines say
 what goes wrong, and each of the others begins with two spaces and a key, and goes on in lines with more spaces:
@@ -17,7 +17,7 @@ from collections.abc import Iterator
 from typing import NamedTuple
 
 HOME = os.path.dirname(os.path.dirname(os.path.dirname(os.path.abspath(__file__))))
-DATA = "docs/faults.txt"
+DATA = "docs/assurance/faults.txt"
 KEYS = ("by", "edits", "aside", "tests")
 EDITS = re.compile(r"(\w+) (`\w+`(?:, `\w+`)*)")
 KEY_LINE = re.compile(r"  (\w+) (\S.*)")

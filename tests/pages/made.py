@@ -101,8 +101,8 @@ def faults_by_subject() -> Iterator[str]:
 
 
 def of_docs(text: str) -> str:
-    """A text of a page in docs, with its links as a page one folder below has them."""
-    return re.sub(r"\]\((?=[A-Z])", "](../", text)
+    """A text of a page in docs/assurance, with its links as a page of another folder beside it has them."""
+    return re.sub(r"\]\((?!\w+:|#|\.\./)", "](../assurance/", text)
 
 
 def shown(fault: faults.Fault) -> Iterable[str]:

@@ -1,4 +1,4 @@
-"""A folder that stands in for a machine with the package installed, for the commands of docs/RUNBOOK.md.
+"""A folder that stands in for a machine with the package installed, for the commands of docs/operate/runbook.md.
 
 The commands of the package are those of this tree. The service manager and its log are stand-ins, which run a gateway,
 and a bridge whose broker is a pair of pipes.

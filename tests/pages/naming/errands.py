@@ -9,7 +9,7 @@ from typing import NamedTuple
 from checks import Tally
 from pages.naming.tree import found, text_of
 
-MAP = "docs/MAP.md"
+MAP = "docs/develop/map.md"
 # What somebody lists who looks for code: sources, the package, and what is deployed.
 LISTED = ("crates/*/src/*", "issuer_host/*/*.py", "deploy/*")
 # So many files are read at a glance.

@@ -6,17 +6,18 @@ import subprocess
 
 from checks import Tally
 from issuer_host import INSTALLED, OF_SOURCES
-from issuer_host.facts.paths import HOME
+from issuer_host.facts.paths import HOME, PAGES_OF_DOCS
 from pages import faults
 from pages.naming.tree import found, tests_of, text_of, words_in
 
-DEFINITIONS = "docs/DEFINITIONS.md"
+DEFINITIONS = "docs/assurance/reading-guide.md"
 CHANGES = "CHANGELOG.md"
-MAP = "docs/MAP.md"
-DECISIONS = "docs/decisions/README.md"
-MACHINES, BELIEVED = "docs/MACHINES.md", "## What is believed"
+MAP = "docs/develop/map.md"
+PYTHON, MODULES = "docs/develop/map-python.md", "## The Python: `issuer_host`"
+DECISIONS = "docs/develop/decisions/README.md"
+MACHINES, BELIEVED = "docs/assurance/premises.md", "## What is believed"
 # Pages that a reader of the site reads in a row.
-READ = ("README.md", "CONTRIBUTING.md", "docs/*.md", "docs/decisions/*.md", "deploy/*.md")
+READ = ("README.md", "CONTRIBUTING.md", *PAGES_OF_DOCS, "deploy/*.md")
 # The script of a check that a row of what is believed names without one.
 OF_RULE = "tests/machines/replication"
 # What stands in such a row for a fact that no test can show, with what to do in its place.
@@ -96,12 +97,14 @@ def changes_begin_with_the_version(tally: Tally) -> None:
 def decisions_have_their_form(tally: Tally) -> None:
     """Each page of a decision has a title, context, choice and consequence, and the list has it by its title."""
     listed = dict((name, title) for title, name in re.findall(r"(?m)^- \[(.+)\]\(([^)]+)\)$", text_of(DECISIONS)))
-    pages = {os.path.basename(path): text_of(path) for path in found("docs/decisions/[0-9]*.md")}
+    pages = {os.path.basename(path): text_of(path) for path in found("docs/develop/decisions/[0-9]*.md")}
     tally.expect(sorted(listed), sorted(pages), f"the pages that {DECISIONS} lists")
     for name, text in pages.items():
-        tally.expect(text.split("\n")[0], f"# {listed.get(name)}", f"docs/decisions/{name}: its title, as listed")
+        tally.expect(
+            text.split("\n")[0], f"# {listed.get(name)}", f"docs/develop/decisions/{name}: its title, as listed"
+        )
         heads = re.findall(r"(?m)^\*\*(\w+)\.\*\*", text)
-        tally.expect(heads, ["Context", "Choice", "Consequence"], f"docs/decisions/{name}: its parts")
+        tally.expect(heads, ["Context", "Choice", "Consequence"], f"docs/develop/decisions/{name}: its parts")
 
 
 def sections_are_linked(tally: Tally) -> None:
@@ -115,9 +118,9 @@ def sections_are_linked(tally: Tally) -> None:
             tally.holds(title not in titles, f"{path}:{line}: link to the section {title!r} by its anchor")
 
 
-def rows_of_map(heading: str) -> dict[str, set[str]]:
+def rows_of_map(page: str, heading: str) -> dict[str, set[str]]:
     """The rows of a section of the map: by the line above them the first words of those that are indented further."""
-    section = text_of(MAP).partition(f"\n{heading}\n")[2].partition("\n## ")[0]
+    section = text_of(page).partition(f"\n{heading}\n")[2].partition("\n## ")[0]
     found_rows: dict[str, set[str]] = {}
     above = ""
     for line in section.split("\n"):
@@ -132,11 +135,11 @@ def rows_of_map(heading: str) -> dict[str, set[str]]:
 def map_has_each_crate_and_module(tally: Tally) -> None:
     """Each crate has a row in the map, and each module of issuer_host in the rows of its subpackage; no row is left."""
     crates = {os.path.basename(os.path.dirname(path)) for path in found("crates/*/src")}
-    tally.expect(set().union(*rows_of_map("## The crates").values()), crates, f"the crates of {MAP}")
-    rows = rows_of_map("## The Python: `issuer_host`")
-    tally.expect(list(rows), [*INSTALLED, *OF_SOURCES], f"the subpackages of {MAP}, in their order")
+    tally.expect(set().union(*rows_of_map(MAP, "## The crates").values()), crates, f"the crates of {MAP}")
+    rows = rows_of_map(PYTHON, MODULES)
+    tally.expect(list(rows), [*INSTALLED, *OF_SOURCES], f"the subpackages of {PYTHON}, in their order")
     for subpackage, named in rows.items():
         paths = found(f"issuer_host/{subpackage}/*.py")
         modules = {os.path.basename(path).removesuffix(".py") for path in paths} - {"__init__"}
-        tally.expect(sorted(named - modules), [], f"rows of {subpackage} in {MAP} without a module")
-        tally.expect(sorted(modules - named), [], f"modules of {subpackage} without a row in {MAP}")
+        tally.expect(sorted(named - modules), [], f"rows of {subpackage} in {PYTHON} without a module")
+        tally.expect(sorted(modules - named), [], f"modules of {subpackage} without a row in {PYTHON}")

@@ -7,6 +7,6 @@
 - `scenes`: the configurations, lines and journals of the runs
 - `tally`: what all checks share: their words, counts, and what they print of a failure
 - `linking`: which calls a program can make, by the names that it takes from the C library; checks of these
-- `page`: whether docs/PROVED.md names the checks, and only what is there
+- `page`: whether docs/assurance/premises.md names the checks, and only what is there
 - `ordering`, `faults`, `kills`, `files`: the other checks, each a function of its name
 """

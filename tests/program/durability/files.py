@@ -23,7 +23,7 @@ from program.durability.tally import Check, Tally, check_of, new_folder
 from program.durability.watching import OTHER, Fault, Run, Watch
 
 NOBODY = 65_534
-# A stack that docs/TROUBLESHOOTING.md calls enough, and a hole that a start has to read through.
+# A stack that docs/operate/troubleshooting.md calls enough, and a hole that a start has to read through.
 STACK_BYTES = 1_024 * 1_024
 HOLE_BYTES = 256 * 1_024 * 1_024
 # More shards than callers: threads then load two or more each, and the last one fewer.

@@ -1,4 +1,4 @@
-"""The table "The edge to the disk" of docs/PROVED.md: what it names are functions of the edge, checks and mutants."""
+"""The table "The edge to the disk" of docs/assurance/premises.md: it names functions, checks and mutants."""
 import glob
 import os
 import re
@@ -8,7 +8,7 @@ from issuer_host.facts.paths import HOME
 
 from program.durability.tally import Tally
 
-PAGE, TITLE = "docs/PROVED.md", "The edge to the disk"
+PAGE, TITLE = "docs/assurance/premises.md", "The edge to the disk"
 COLUMNS = ("what is done", "where", "premise on the system", "checks", "wrong bodies")
 SOURCES, MUTANTS = "crates/store_edge/src", "tests/mutants/store_edge"
 DEFINED = re.compile(r"\b(?:fn|struct|enum|const|impl)\s+(\w+)")

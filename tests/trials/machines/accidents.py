@@ -2,7 +2,7 @@
 
 The person ends the machine's node, and something happens to the files of a partition. The node is started again. If it
 stops the partition, the person gives the machine copies of another one's journals, or the right files back, by
-docs/OPERATIONS.md, "Files of a partition that aren't right". Meanwhile the other machines go on.
+docs/operate/nodes.md, "Files of a partition that aren't right". Meanwhile the other machines go on.
 """
 import contextlib
 import json

@@ -148,7 +148,7 @@ def hang_broker(machines: Machines, dice: random.Random) -> None:
 
 
 def roll_brokers(machines: Machines, dice: random.Random) -> None:
-    """All brokers are started again, each once all copies answer, as docs/MACHINES.md upgrades them."""
+    """All brokers are started again, each once all copies answer, as docs/operate/three-machines.md upgrades them."""
     for machine in dice.sample(machines.network.machines, len(machines.network.machines)):
         machines.restart_broker(machine, dice.uniform(0.0, 2.0))
         machines.broker_of(machine).wait()
