@@ -19,6 +19,8 @@ WITHOUT_PROGRAM = (
     "tests/sources/unused",
     "tests/sources/library_calls",
     "tests/sources/page_calls",
+    "tests/sources/type_names",
+    "tests/sources/imported_lemmas",
     "tests/pages/field_definitions",
     "tests/pages/figures",
     "tests/pages/site",
