@@ -15,6 +15,8 @@ QUEUE, STREAM, COORDINATOR = "queue", "stream", "coordinator"
 # What chooses the leaders of all streams has members of its own.
 OF_STREAMS = "the coordinator of streams"
 DISK = "disk"
+# A broker's node whose name nothing here knows.
+ANY = "rabbit@ADDRESS"
 # Printed by the broker as one JSON text. A node whose application doesn't run knows its cluster's nodes alone.
 LOOK = """
 Text = fun(Node) -> atom_to_binary(Node, utf8) end,
@@ -150,11 +152,11 @@ def what_is_lost(seen: Redundancy, copies: int = COPIES) -> list[str]:
 def of_brokers(seen: Redundancy, copies: int) -> Iterator[str]:
     for broker in seen.brokers:
         if broker not in seen.running:
-            yield f"the broker's node {broker} doesn't run: start it; if its disk is gone, {replaces(broker)}"
+            yield f"the broker's node {broker} doesn't run: start it; if its disk is gone, {replaces(broker, seen)}"
     if len(seen.brokers) < copies:
         yield (
             f"the cluster of {seen.node} has {len(seen.brokers)} of {copies} nodes:"
-            f" for each that it lacks, {replaces('rabbit@ADDRESS')}"
+            f" for each that it lacks, {replaces(ANY, seen)}"
         )
 
 
@@ -163,7 +165,7 @@ def of_groups(seen: Redundancy, copies: int) -> Iterator[str]:
         lacking = [broker for broker in seen.running if not group.has(broker)]
         for broker in lacking:
             what = "answers with no copy" if broker in group.members else "has no copy"
-            yield f"{broker} {what} of {group.name}: {replaces(broker)}"
+            yield f"{broker} {what} of {group.name}: {replaces(broker, seen)}"
         if not lacking and len(group.online) < min(copies, len(seen.brokers)):
             yield f"{len(group.online)} of {copies} copies of {group.name} answer: start the nodes that don't run"
 
@@ -174,8 +176,10 @@ def of_alarms(seen: Redundancy) -> Iterator[str]:
         yield f"{alarm.broker} has no {alarm.kind} left by its limit, and all publishers are held up: {mends}"
 
 
-def replaces(broker: str) -> str:
-    return f"issuer-replace {broker}"
+def replaces(broker: str, seen: Redundancy) -> str:
+    """Returns the command that replaces a broker by one that lives: the one that sees it, or another that runs."""
+    living = next((one for one in (seen.node, *seen.running) if one != broker), ANY)
+    return f"issuer-replace {broker} --by {living}"
 
 
 def of_lines(seen: Redundancy, partitions: int, copies: int = COPIES) -> list[str]:

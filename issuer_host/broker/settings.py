@@ -9,6 +9,9 @@ from issuer_host.facts.refusal import Refusal
 
 COMMAND = "rabbitmqctl"
 SECONDS = 300
+# Statuses of rabbitmqctl that may be others when it is asked again: the node doesn't answer or isn't ready, an error
+# inside it, and a fault that it says passes. Wrong words, wrong data and want of rights stay.
+PASSING = (68, 69, 70, 75)
 PIECES = re.compile(r'"\n\s*"')
 # What a listener's protocol is called where clients connect, and the broker's own between its nodes.
 PLAIN, ENCRYPTED, BETWEEN_NODES = "amqp", "amqp/ssl", "clustering"
@@ -27,6 +30,10 @@ Encode(#{
   } || {listener, _, Protocol, _, Address, Port, _} <- rabbit_networking:node_listeners(node())]
 }).
 """
+
+
+class PassingRefusal(Refusal):
+    """Something that a broker didn't do, and that it may do when it is asked again."""
 
 
 class Permissions(NamedTuple):
@@ -98,10 +105,12 @@ class Control:
         except OSError as fault:
             raise Refusal(f"{self.command} can't be run: {fault.strerror}; name it by --control") from fault
         except subprocess.TimeoutExpired as fault:
-            raise Refusal(f"{self.command} {words[0]} gave no answer in {SECONDS} s; is the broker up?") from fault
+            said = f"{self.command} {words[0]} gave no answer in {SECONDS} s; is the broker up?"
+            raise PassingRefusal(said) from fault
         if done.returncode:
             said = (done.stderr or done.stdout).strip().partition("\n")[0]
-            raise Refusal(f"{self.command} {words[0]} ended with {done.returncode}: {said}. Run it as root")
+            refused = PassingRefusal if done.returncode in PASSING else Refusal
+            raise refused(f"{self.command} {words[0]} ended with {done.returncode}: {said}. Run it as root")
         return done.stdout
 
     def rows(self, *words: str, is_of_host: bool = True) -> Any:

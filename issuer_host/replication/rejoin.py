@@ -24,7 +24,7 @@ import time
 from collections.abc import Sequence
 from typing import NamedTuple, Optional
 
-from issuer_host.broker.redundancy import Redundancy, redundancy_of, what_is_lost
+from issuer_host.broker.redundancy import Redundancy, redundancy_of, replaces, what_is_lost
 from issuer_host.broker.settings import COMMAND, Control
 from issuer_host.broker.broker_watch import Act, BrokerWatch, HUNG_SECONDS
 from issuer_host.facts.refusal import Refusal, tell
@@ -92,8 +92,8 @@ class Watcher:
             tell(NAME, act.value)
             self.kill()
         elif act is Act.TELL_ALONE and seen is not None:
-            others = seen.others()
-            tell(NAME, f"{act.value}: issuer-replace {seen.node} --by {others[0]}")
+            # (it sees no other that runs: its configuration names them)
+            tell(NAME, f"{act.value}: {replaces(seen.node, seen._replace(running=seen.others()))}")
         self.tell_lost(what_is_lost(seen) if seen is not None and seen.runs and not seen.is_of_its_own() else [])
 
     def tell_lost(self, lost: list[str]) -> None:

@@ -9,7 +9,8 @@ both by rabbitmqctl. The old machine is off, or gone. It prints each step, check
 
     three of three: brokers 3 of 3, queues 3 of 3, streams 3 of 3, the coordinator of streams 3 of 3, journals 3 of 3
 
-or with what is missing, the command that mends it, and status 1. After any failure run it again: it goes on.
+or with what is missing, the command that mends it, and status 1. If a step at a broker fails for a cause that may pass,
+it says so and tries it again, five times in all. After any failure run it again: it goes on.
 
 Journals are there on a machine whose node serves or waits in the line of each partition's queue.
 
@@ -34,7 +35,7 @@ from collections.abc import Callable, Mapping, Sequence
 from typing import NamedTuple, Optional
 
 from issuer_host.broker.redundancy import COPIES, Redundancy, partitions_of, redundancy_of, summary, what_is_lost
-from issuer_host.broker.settings import COMMAND, Control
+from issuer_host.broker.settings import COMMAND, Control, PassingRefusal
 from issuer_host.facts.journals import POSITION, shards_of_files
 from issuer_host.facts.paths import HOME
 from issuer_host.facts.refusal import Refusal, tell
@@ -64,6 +65,12 @@ DELETE_REPLICA = """(fun() ->
   erpc:call('{broker}', file, del_dir_r, [filename:join(Folder, Stream)])
 end)()"""
 LOOK_SECONDS, BROKER_SECONDS, ALL_SECONDS = 2.0, 120.0, 1_800.0
+# How often a step is tried that fails for a cause that may pass, and how long after it failed.
+TRIES, AGAIN_SECONDS = 5, 5.0
+
+
+class CommandEnded(Refusal):
+    """A command that ended with another status than 0."""
 
 
 class ReplaceOptions(NamedTuple):
@@ -147,6 +154,8 @@ class Replacing:
         self.starts = 0
         self.is_node_started = False
         self.began = self.changed = time.monotonic()
+        # How often each step has failed since it was done last.
+        self.failed: "dict[str, int]" = {}
 
     def control(self, broker: str) -> Control:
         return Control(self.options.control, self.options.vhost, ("--node", broker))
@@ -166,19 +175,45 @@ class Replacing:
 
     def run(self) -> Redundancy:
         """Takes steps until all is there, and returns what the living broker sees then."""
-        while (step := next_step(state := self.state())) is not None:
+        while (step := next_step(state := self.look())) is not None:
             if step.does is Does.WAIT:
                 time.sleep(LOOK_SECONDS)
             else:
                 print(f"{step}", flush=True)
                 self.take(step)
-                self.changed = time.monotonic()
             if time.monotonic() - self.began > ALL_SECONDS:
                 raise Refusal("; ".join([f"it isn't done in {ALL_SECONDS:.0f} s", *what_is_lost(state.living)]))
         return state.living
 
+    def look(self) -> Replaced:
+        """Returns what there is, once the living broker says it."""
+        what = f"to ask {self.options.by} what is there"
+        while True:
+            try:
+                found = self.state()
+            except PassingRefusal as refusal:
+                self.note_failed(what, refusal)
+            else:
+                self.failed.pop(what, None)
+                return found
+
     def take(self, step: Step) -> None:
-        self.steps()[step.does](step.subjects)
+        """Takes a step. If it fails for a cause that may pass, the next look says which step comes then."""
+        try:
+            self.steps()[step.does](step.subjects)
+        except PassingRefusal as refusal:
+            self.note_failed(str(step), refusal)
+        else:
+            self.failed.pop(str(step), None)
+            self.changed = time.monotonic()
+
+    def note_failed(self, what: str, why: PassingRefusal) -> None:
+        """Says what failed and is tried again, and waits; refuses once it was tried often enough."""
+        self.failed[what] = self.failed.get(what, 0) + 1
+        if self.failed[what] == TRIES:
+            raise Refusal(f"tried {TRIES} times {what}: {why}") from why
+        print(f"this failed, and is tried again in {AGAIN_SECONDS:.0f} s: {what}: {why}", flush=True)
+        time.sleep(AGAIN_SECONDS)
 
     def steps(self) -> "Mapping[Does, Callable[[Sequence[str]], object]]":
         broker, by = self.options.broker, self.options.by
@@ -219,7 +254,11 @@ class Replacing:
                 f"{self.options.broker} doesn't answer: start the broker on its machine (systemctl start"
                 " rabbitmq-server), and run this again"
             )
-        run(shlex.split(self.options.start_broker))
+        try:
+            run(shlex.split(self.options.start_broker))
+        except CommandEnded as refusal:
+            # (one that the others take for a member may end in its start: it comes up once they forgot it)
+            raise PassingRefusal(str(refusal)) from refusal
         end = time.monotonic() + BROKER_SECONDS
         while self.own() is None and time.monotonic() < end:
             time.sleep(LOOK_SECONDS)
@@ -239,7 +278,7 @@ def run(command: Sequence[str]) -> None:
         raise Refusal(f"{command[0]} can't be run: {fault.strerror}") from fault
     if done.returncode:
         said = (done.stderr or done.stdout).strip().rpartition("\n")[2]
-        raise Refusal(f"{shlex.join(command)} ended with {done.returncode}: {said}")
+        raise CommandEnded(f"{shlex.join(command)} ended with {done.returncode}: {said}")
 
 
 def line_of(seen: Redundancy) -> str:

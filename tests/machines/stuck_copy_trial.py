@@ -86,7 +86,8 @@ def stuck_copy(trial: ReplacingTrial) -> None:
     stream = topology.stream_of(0)
     for one in machines.network.machines:
         machines.broker_of(one).watch("--every", "3", "--figures", str(WATCH_PORT))
-    expected = [f"{name_of(broken)} answers with no copy of {stream}: issuer-replace {name_of(broken)}"]
+    command = f"issuer-replace {name_of(broken)} --by {name_of(living)}"
+    expected = [f"{name_of(broken)} answers with no copy of {stream}: {command}"]
     is_named = comes(lambda: what_is_lost(trial.seen_by(living)) == expected, SETTLE_SECONDS)
     tally.check(is_named, f"what is said of it: {what_is_lost(trial.seen_by(living))}")
     trial.ask()
