@@ -1,5 +1,6 @@
 """The proof of the programs: one run of the toolchain's own gate over a copy of the crates that they stand on."""
 import fcntl
+import hashlib
 import os
 import re
 import shutil
@@ -15,8 +16,8 @@ from typing import NoReturn, Optional
 from issuer_host.building.estimate import write_seconds
 from issuer_host.building.progress import Progress
 from issuer_host.facts.paths import BUILD, HOME, ProgramName, RECORD
-from issuer_host.facts.proof import sum_of
 from issuer_host.facts.version import version
+from issuer_host.files.placement import put_in_place
 from issuer_host.launcher.messages import complain, minutes, stop, tell
 from issuer_host.launcher.program_run import SIGNALS, ending_with_launcher
 from issuer_host.launcher.proved_program import sum_of_proof, why_unproved, write_json
@@ -169,12 +170,11 @@ def last_lines(path: str) -> Iterable[str]:
 
 def install(made: Mapping[ProgramName, str], sources: dict[str, str], kit: str) -> None:
     """Leaves the programs and the record of their proof."""
-    sums = {}
+    programs: dict[ProgramName, bytes] = {}
     for program, path in made.items():
-        new = f"{program.path}.new"
-        shutil.copyfile(path, new)
-        os.chmod(new, 0o755)
-        sums[program.member] = sum_of(new)
+        with open(path, "rb") as file:
+            programs[program] = file.read()
+    sums = {program.member: hashlib.sha256(data).hexdigest() for program, data in programs.items()}
     record = {
         "sum": sum_of_proof(sources, kit),
         "kit": kit,
@@ -183,6 +183,6 @@ def install(made: Mapping[ProgramName, str], sources: dict[str, str], kit: str) 
         "sources": sources,
         "at": time.strftime("%Y-%m-%dT%H:%M:%SZ", time.gmtime()),
     }
-    for program in made:
-        os.replace(f"{program.path}.new", program.path)
+    for program, data in programs.items():
+        put_in_place(program.path, data, 0o755)
     write_json(RECORD, record)

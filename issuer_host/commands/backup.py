@@ -20,7 +20,7 @@ from typing import NamedTuple, Optional
 
 from issuer_host.facts.journals import POSITION, journals_of
 from issuer_host.facts.refusal import Refusal, tell
-from issuer_host.files.folders import folder_of
+from issuer_host.files.placement import move_in_place
 from issuer_host.files.seals import seals_path
 from issuer_host.host import offline
 from issuer_host.telling import textfile
@@ -102,8 +102,7 @@ def back_up(options: BackupOptions) -> None:
             copy(path, copied)
         sync(copied)
         cards = cards_in(options, copied)
-        os.rename(copied, os.path.join(options.to, name))
-    sync(folder_of(os.path.join(options.to, name)))
+        move_in_place(copied, os.path.join(options.to, name))
     for old in copies_of(options.to)[: -options.keep]:
         shutil.rmtree(os.path.join(options.to, old))
     if options.figures:

@@ -30,6 +30,7 @@ from issuer_host.facts.refusal import Refusal, tell
 from issuer_host.commands import configurations
 from issuer_host.commands.configurations import Json, name_of
 from issuer_host.files.folders import sync_folder
+from issuer_host.files.placement import move_in_place
 from issuer_host.host import offline
 
 COLUMNS = ["pan", "psn", "method"]
@@ -143,8 +144,7 @@ def write_all(folder: str, found: Sequence[Json], program: Optional[str]) -> Non
             write(partition_configuration(ready, number), json.dumps(configuration, indent=1) + "\n")
             judge(ready, room, number, program)
         sync_folder(ready)
-        os.rename(ready, os.path.join(folder, NEXT))
-    sync_folder(folder)
+        move_in_place(ready, os.path.join(folder, NEXT))
     finish(folder)
 
 
@@ -154,8 +154,7 @@ def finish(folder: str) -> None:
     if not os.path.isdir(ready):
         return
     for name in sorted(os.listdir(ready)):
-        os.replace(os.path.join(ready, name), os.path.join(folder, name))
-    sync_folder(folder)
+        move_in_place(os.path.join(ready, name), os.path.join(folder, name))
     os.rmdir(ready)
 
 

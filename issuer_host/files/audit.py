@@ -18,6 +18,7 @@ from issuer_host.facts.masks import masked
 from issuer_host.facts.refusal import Refusal
 from issuer_host.facts.troubles import Troubles
 from issuer_host.files.folders import as_owner, folder_of
+from issuer_host.files.placement import move_in_place
 from issuer_host.files.regular_files import open_regular
 
 Action = Callable[[], object]
@@ -129,7 +130,7 @@ class Audit:
         for number in range(self.full_files, 0, -1):
             before = f"{self.path}.{number - 1}" if number > 1 else self.path
             if os.path.exists(before):
-                os.replace(before, f"{self.path}.{number}")
+                move_in_place(before, f"{self.path}.{number}")
 
     def close(self) -> None:
         if self.file >= 0:

@@ -13,6 +13,7 @@ from issuer_host.facts.faults import refuse_if_lasting
 from issuer_host.facts.journals import journal_path
 from issuer_host.facts.refusal import Refusal
 from issuer_host.files.open_journals import inode_of
+from issuer_host.files.placement import put_in_place
 from issuer_host.files.regular_files import open_regular
 from issuer_host.files.run_mark import RunMark, new_run
 
@@ -69,11 +70,8 @@ def write(path: str, name: str, shards: int) -> str:
     """Writes which journals a run has that begins now. Returns the run's name."""
     found = LastRun(new_run(), places_of(name, shards))
     lines = [f"{shard} {device} {inode}\n" for shard, (device, inode) in found.places.items()]
-    new = f"{path}.new"
     try:
-        with open(open_regular(new, os.O_WRONLY | os.O_CREAT | os.O_TRUNC), "w", encoding="ascii") as to:
-            to.write(f"run {found.name}\n{''.join(lines)}")
-        os.replace(new, path)
+        put_in_place(path, f"run {found.name}\n{''.join(lines)}")
     except OSError as fault:
         refuse_if_lasting(fault, f"the journals of this run can't be noted in {path}: {fault.strerror}")
         raise

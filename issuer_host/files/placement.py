@@ -1,7 +1,7 @@
 """Puts a whole file in place: written beside it, synced, renamed, and the folder synced.
 
-This is the one way in which a file is replaced. A reader sees the old bytes or the new ones, whole, and so does a start
-after a loss of power.
+This is the one way in which a file is replaced or gets another name. A reader sees the old bytes or the new ones,
+whole, and so does a start after a loss of power. `tests/lint` refuses a rename elsewhere in the package.
 """
 from __future__ import annotations
 
@@ -29,3 +29,12 @@ def put_in_place(path: str, data: Union[str, bytes], mode: int = OWN) -> None:
         os.unlink(new)
         raise
     sync_folder(folder)
+
+
+def move_in_place(path: str, to: str) -> None:
+    """Gives a file or a folder, which is whole and synced, another name, durably. What had that name is replaced."""
+    os.replace(path, to)
+    folders = folder_of(path), folder_of(to)
+    sync_folder(folders[1])
+    if not os.path.samefile(*folders):
+        sync_folder(folders[0])

@@ -15,7 +15,7 @@ from typing import NamedTuple
 from issuer_host.facts.journals import POSITION, VERSION_LINE, journal_path, shards_of_files
 from issuer_host.facts.refusal import Refusal
 from issuer_host.replication import positions
-from issuer_host.files.placement import put_in_place
+from issuer_host.files.placement import move_in_place, put_in_place
 from issuer_host.replication.messages import Barrier, NO_BARRIER
 from issuer_host.replication.node_file import PartitionSettings
 from issuer_host.replication.journal_lock import LOCK, locked
@@ -159,7 +159,7 @@ def move_away(journal: str) -> None:
     os.mkdir(to, 0o700)
     for path in files_of(journal):
         if not path.endswith(LOCK):
-            os.rename(path, os.path.join(to, os.path.basename(path)))
+            move_in_place(path, os.path.join(to, os.path.basename(path)))
 
 
 def take(source: str, journal: str) -> None:

@@ -17,7 +17,8 @@ from deployment.running import Host, is_refused, new_host, run
 from issuer_host.facts.journals import VERSION_LINE
 from issuer_host.facts.refusal import Refusal
 from issuer_host.facts.statuses import Status
-from issuer_host.files.placement import put_in_place
+from issuer_host.files import last_run
+from issuer_host.files.placement import move_in_place, put_in_place
 from issuer_host.files.seals import Seals
 from issuer_host.host.feed_run import limits_over
 from issuer_host.orders.intent_log import Begun, DECLINE, MOST_LINES
@@ -29,7 +30,7 @@ from issuer_host.replication.position_keeper import PositionKeeper
 from issuer_host.replication.record_origins import FedLines, NOWHERE, Origin, RefusedRecord
 from issuer_host.replication.rule_events import MOST_BEYOND
 from issuer_host.replication.standby_run import StandbyRun, TransientFault
-from runs import PANS, SHARDS, write_bytes, write_text
+from runs import PANS, SHARDS, new_folder, write_bytes, write_text
 
 BARRIER = Barrier(3, "c0ffee", "m1")
 
@@ -559,6 +560,32 @@ def puts_files_in_place(tally: Tally) -> None:
         tally.expect(left, [], "what is left beside it")
 
 
+def moves_files_durably(tally: Tally) -> None:
+    """A file that gets another name, and what a run notes of its journals, are synced with their folders."""
+    with new_folder() as room:
+        synced: "list[str]" = []
+        sync = os.fsync
+
+        def note(file: int) -> None:
+            synced.append(os.path.basename(os.readlink(f"/proc/self/fd/{file}")))
+            sync(file)
+
+        for name in ("one", "other"):
+            os.mkdir(os.path.join(room, name))
+        with open(os.path.join(room, "one/file"), "w", encoding="utf-8") as to:
+            to.write("text")
+        with unittest.mock.patch("os.fsync", note):
+            move_in_place(os.path.join(room, "one/file"), os.path.join(room, "one/named"))
+            move_in_place(os.path.join(room, "one/named"), os.path.join(room, "other/file"))
+            tally.expect(synced, ["one", "other", "one"], "the folders that are synced")
+            with open(os.path.join(room, "other/file"), encoding="utf-8") as text:
+                tally.expect(text.read(), "text", "the file")
+            synced.clear()
+            last_run.write(os.path.join(room, "one/last"), os.path.join(room, "journal"), 0)
+        tally.holds(synced[0].startswith(".last."), f"what is noted of a run is synced: {synced}")
+        tally.expect(synced[1:], ["one"], "and then its folder")
+
+
 def knows_the_message_of_a_line(tally: Tally) -> None:
     """The message is found from which a run of standby got a line, until a position is past it."""
     lines, origins = FedLines(), [Origin("stream", offset, f"m{offset}") for offset in range(3)]
@@ -671,6 +698,7 @@ CHECKS = [
         ends_a_run_of_standby_that_hangs,
         knows_the_message_of_a_line,
         puts_files_in_place,
+        moves_files_durably,
         notes_are_kept,
         makes_notes_that_can_be_parsed,
         refuses_notes_that_were_changed,

@@ -13,6 +13,9 @@ PACKAGE = "issuer_host"
 ORDER = (*INSTALLED, *OF_SOURCES)
 MOST_METHODS = 20
 MOST_LINES = 300
+# The module that renames, and the calls that do.
+PLACEMENT = f"{PACKAGE}/files/placement.py"
+RENAMES = ("os.rename", "os.renames", "os.replace", "shutil.move", "pathlib.Path.rename", "pathlib.Path.replace")
 # Names that end like a participle, and are things.
 THINGS = ("mapping",)
 
@@ -119,7 +122,44 @@ def modules_are_named_by_things(tally: Tally) -> None:
         tally.holds(is_thing, f"{source.path}: {name} is no thing: name what it is about, as `dialler` for `dialling`")
 
 
+def renames_of(tree: ast.AST) -> Iterator[tuple[int, str]]:
+    """Yields the lines of a module that give a file another name, and by which call."""
+    for node in ast.walk(tree):
+        if isinstance(node, ast.ImportFrom):
+            for alias in node.names:
+                if f"{node.module}.{alias.name}" in RENAMES:
+                    yield node.lineno, f"{node.module}.{alias.name}"
+        elif isinstance(node, ast.Attribute) and isinstance(node.value, ast.Name):
+            if f"{node.value.id}.{node.attr}" in RENAMES:
+                yield node.lineno, f"{node.value.id}.{node.attr}"
+
+
+def files_are_put_in_place_in_one_way(tally: Tally) -> None:
+    """One module renames, which syncs the file and its folder; so no other one of the package and its commands does."""
+    for text in ("import os\nos.rename(a, b)", "from os import replace", "import shutil\nshutil.move(a, b)"):
+        tally.expect(len(list(renames_of(ast.parse(text)))), 1, f"renames in {text!r}")
+    found = [(source.path, source.tree) for source in sources()] + list(commands())
+    tally.holds(any(path.startswith("deploy/") for path, _ in found), "commands of deploy/ are read")
+    for path, tree in found:
+        renames = [f"{path}:{line}: {name}" for line, name in renames_of(tree)]
+        if path == PLACEMENT:
+            tally.expect(len(renames), 2, "renames of the one module")
+        else:
+            tally.expect(renames, [], f"renames: {PLACEMENT} has put_in_place and move_in_place")
+
+
+def commands() -> Iterator[tuple[str, ast.Module]]:
+    """Yields the commands of deploy/ and the launcher, parsed."""
+    for path in ("issuer", *sorted(f"deploy/{name}" for name in os.listdir(os.path.join(HOME, "deploy")))):
+        if os.path.isfile(os.path.join(HOME, path)):
+            with open(os.path.join(HOME, path), encoding="utf-8") as text:
+                first = text.readline()
+                if first.startswith("#!") and "python" in first:
+                    yield path, ast.parse(text.read())
+
+
 CHECKS: list[Check] = [
+    check_of(files_are_put_in_place_in_one_way),
     check_of(imports_follow_the_order),
     check_of(classes_have_names_of_their_own),
     check_of(classes_have_one_job),
