@@ -55,7 +55,8 @@ case rabbit:is_running() of
       #{<<"name">> => Name, <<"host">> => Host, <<"kind">> => Kind,
         <<"members">> => Texts(proplists:get_value(members, Info, [])),
         <<"online">> => Texts([Node || Node <- Try(fun() -> Online(Queue) end, []), lists:member(Node, Running)]),
-        <<"line">> => Try(fun() -> length(Consumers(Queue)) end, 0)}
+        <<"line">> => Try(fun() -> length(Consumers(Queue)) end, 0),
+        <<"by">> => Texts([node(Pid) || Pid <- Try(fun() -> Consumers(Queue) end, [])])}
     end,
     Queues = [Queue || Queue <- rabbit_amqqueue:list(), amqqueue:get_type(Queue) =/= rabbit_classic_queue],
     Encode(Base#{
@@ -81,6 +82,8 @@ class Group(NamedTuple):
     online: tuple[str, ...]
     # The machines' nodes that serve the queue or wait for it; none of a stream.
     line: int
+    # The brokers' nodes to which those are connected.
+    by: tuple[str, ...] = ()
 
     def has(self, broker: str) -> bool:
         """Whether a node has a copy, and answers."""
@@ -130,7 +133,7 @@ def redundancy_of(control: Control) -> Redundancy:
 def read(said: Mapping[str, Any], host: str) -> Redundancy:
     """Returns what a node says, of a virtual host's queues."""
     found = [
-        Group(row["name"], row["kind"], tuple(row["members"]), tuple(row["online"]), row["line"])
+        Group(row["name"], row["kind"], tuple(row["members"]), tuple(row["online"]), row["line"], tuple(row["by"]))
         for row in sorted(said.get("groups", []), key=lambda row: str(row["name"]))
         if row["host"] == host and row["name"].startswith("issuer.")
     ]
@@ -193,10 +196,23 @@ def of_lines(seen: Redundancy, partitions: int, copies: int = COPIES) -> list[st
     ]
 
 
+def queues_of_partitions(seen: Redundancy) -> list[Group]:
+    begin = topology.queue_of(0)[:-1]
+    return [group for group in seen.groups if group.kind == QUEUE and group.name.startswith(begin)]
+
+
 def partitions_of(seen: Redundancy) -> int:
     """Returns how many partitions have a queue."""
-    begin = topology.queue_of(0)[:-1]
-    return sum(group.kind == QUEUE and group.name.startswith(begin) for group in seen.groups)
+    return len(queues_of_partitions(seen))
+
+
+def lacking_at(seen: Redundancy) -> int:
+    """Returns what the machine of this node lacks: copies that it doesn't have, and lines in which it doesn't stand.
+
+    A machine's node is connected to the broker's node beside it.
+    """
+    copies = sum(not group.has(seen.node) for group in seen.groups)
+    return copies + sum(seen.node not in group.by for group in queues_of_partitions(seen))
 
 
 def summary(seen: Redundancy, copies: int = COPIES) -> str:

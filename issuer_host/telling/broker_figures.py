@@ -2,7 +2,7 @@
 from collections.abc import Iterator, Mapping
 from typing import Optional
 
-from issuer_host.broker.redundancy import DISK, Redundancy
+from issuer_host.broker.redundancy import DISK, Redundancy, lacking_at
 
 MEMORY = "memory"
 # By name: what each says.
@@ -12,6 +12,7 @@ FIGURES = {
     "issuer_broker_alone": "1 if it runs in a cluster of its own, or without the others",
     "issuer_brokers": "Nodes of the cluster, as the node of this machine knows them",
     "issuer_brokers_running": "Nodes of the cluster that run, as the node of this machine sees them",
+    "issuer_machine_lacks": "Copies that the node of this machine lacks, and queues that no node by it waits for",
     "issuer_broker_alarm": "1 if the node of this machine has none left: publishers are held up",
     "issuer_queue_members": "Nodes that should have a copy of a queue or a stream",
     "issuer_queue_members_online": "Nodes that have a copy of a queue or a stream, and answer",
@@ -38,6 +39,7 @@ def of_cluster(seen: Redundancy) -> dict[str, Labelled]:
         "issuer_broker_alone": {"": seen.has_lost_all() or seen.is_of_its_own()},
         "issuer_brokers": {"": len(seen.brokers)},
         "issuer_brokers_running": {"": len(seen.running)},
+        "issuer_machine_lacks": {"": lacking_at(seen)},
         "issuer_broker_alarm": {labels(kind=kind): kind in own for kind in (MEMORY, DISK)},
         "issuer_queue_members": {text: len(group.members) for text, group in named.items()},
         "issuer_queue_members_online": {text: len(group.online) for text, group in named.items()},

@@ -3,7 +3,10 @@ import subprocess
 import time
 from collections.abc import Iterator
 
+from issuer_host.broker import topology
+from issuer_host.replication.replace import ADD_MEMBER, DELETE_MEMBER
 from machines.replacing_trial import ReplacingTrial
+from trials.machines.brokers import name_of
 from trials.machines.network import Machine
 from trials.scraped_figures import ScrapedFigures, Target
 
@@ -64,6 +67,46 @@ class FaultFigures:
         self.trial.tally.check(not why_not, f"the alerts: {why_not}")
 
 
+def second_things_fire_alerts(trial: ReplacingTrial) -> None:
+    """A broker lacks a queue's copy, and its machine's node ends: that is one thing, and no page. Another machine's
+    node that ends beside it is a second one."""
+    figures, machines = FaultFigures(trial), trial.machines
+    first, second, third = machines.network.machines
+    figures.begin()
+    figures.watch(20.0)
+    change_copy(trial, first, third, DELETE_MEMBER)
+    figures.watch(150.0, "IssuerCopyMissing")
+    end_node(trial, third)
+    tickets = ("IssuerCopyMissing", "IssuerMachineMissing")
+    figures.watch(120.0, *tickets)
+    start_node(trial, third)
+    figures.watch(120.0, "IssuerCopyMissing")
+    end_node(trial, second)
+    figures.watch(90.0, *tickets, "IssuerRedundancyLost")
+    start_node(trial, second)
+    change_copy(trial, first, third, ADD_MEMBER)
+    trial.whole("after the copy and the node came back")
+    figures.watch(60.0)
+    figures.check()
+
+
+def change_copy(trial: ReplacingTrial, by: Machine, machine: Machine, call: str) -> None:
+    """Takes the copy of partition 0's queue from a machine, or gives it one."""
+    found = call.format(host="/", broker=name_of(machine)).replace("Queue", f'<<"{topology.queue_of(0)}">>', 1)
+    trial.machines.broker_of(by).control("eval", f"{found}.")
+
+
+def end_node(trial: ReplacingTrial, machine: Machine) -> None:
+    with trial.machines.lock:
+        trial.machines.node_of(machine).off()
+        trial.machines.node_of(machine).kill()
+
+
+def start_node(trial: ReplacingTrial, machine: Machine) -> None:
+    with trial.machines.lock:
+        trial.machines.node_of(machine).start()
+
+
 def faults_fire_alerts(trial: ReplacingTrial) -> None:
     """One of three goes, then a second thing; an alarm; a broker that is alone: each fires its alerts and no others."""
     figures, machines = FaultFigures(trial), trial.machines
@@ -72,13 +115,10 @@ def faults_fire_alerts(trial: ReplacingTrial) -> None:
     figures.watch(40.0)
     machines.switch_off(third, is_heard=True)
     figures.watch(150.0, "IssuerBrokerMissing", "IssuerMachineMissing", "IssuerBrokerNotLookedAt")
-    with machines.lock:
-        machines.node_of(second).off()
-        machines.node_of(second).kill()
+    end_node(trial, second)
     both = ("IssuerBrokerMissing", "IssuerMachineMissing", "IssuerBrokerNotLookedAt", "IssuerRedundancyLost")
     figures.watch(60.0, *both)
-    with machines.lock:
-        machines.node_of(second).start()
+    start_node(trial, second)
     machines.switch_on(third)
     machines.broker_of(third).wait()
     machines.broker_of(third).watch("--every", "3", "--figures", str(WATCH_PORT))

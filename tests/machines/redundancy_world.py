@@ -29,7 +29,7 @@ class ReplacedWorld:
     def groups(self) -> tuple[Group, ...]:
         line = 3 if self.follows and self.is_in() else 2
         return tuple(
-            Group(name, kind, tuple(sorted(self.listed[name])), tuple(sorted(self.online[name])), line)
+            Group(name, kind, tuple(sorted(self.listed[name])), tuple(sorted(self.online[name])), line, BROKERS[:line])
             for name, kind in KINDS.items()
         )
 

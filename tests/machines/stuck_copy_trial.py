@@ -91,8 +91,8 @@ def stuck_copy(trial: ReplacingTrial) -> None:
     is_named = comes(lambda: what_is_lost(trial.seen_by(living)) == expected, SETTLE_SECONDS)
     tally.check(is_named, f"what is said of it: {what_is_lost(trial.seen_by(living))}")
     trial.ask()
-    # (without a copy at its broker the machine's node can't read the stream either)
-    figures.watch(150.0, "IssuerCopyMissing", "IssuerMachineMissing", "IssuerRedundancyLost")
+    # (without a copy at its broker the machine's node can't read the stream either: that is one thing, and no page)
+    figures.watch(150.0, "IssuerCopyMissing", "IssuerMachineMissing")
     figures.check()
     tally.check(what_is_lost(trial.seen_by(living)) == expected, f"later: {what_is_lost(trial.seen_by(living))}")
     words = [REPLACE, name_of(broken), "--by", name_of(living), "--control"]
