@@ -20,6 +20,7 @@ from issuer_host.facts.paths import HOME
 MARK = "\x1e"
 INDENT = "    "
 PROMPT = "$ "
+SECTION = "## "
 LINKS = ("docs", "examples", "tests")
 # Commands that start the program by themselves: their tree is the folder, so that they start the one that is tried.
 COPIES = ("deploy", "issuer_host", "tools")
@@ -58,6 +59,13 @@ def commands_of(page: str) -> list[Command]:
             elif is_printed:
                 found[-1].prints += line
     return found
+
+
+def section_of(page: str, line: int) -> str:
+    """Returns the title of the section of a page that has a line; nothing above the first one."""
+    with open(os.path.join(HOME, page), encoding="utf-8") as text:
+        titles = [row.removeprefix(SECTION).strip() for row in list(text)[:line] if row.startswith(SECTION)]
+    return titles[-1] if titles else ""
 
 
 def script_of(commands: Sequence[Command]) -> str:
