@@ -1,4 +1,4 @@
-"""A cluster of three RabbitMQ nodes, one on each machine, set as docs/operate/three-machines.md says."""
+"""A cluster of three RabbitMQ nodes, one on each machine, set as docs/operate/three-machines.md#the-broker says."""
 import base64
 import contextlib
 import hashlib
