@@ -80,7 +80,7 @@ def are_level(machines: Machines) -> bool:
 
 
 def begin_anew(trial: ReplacingTrial) -> None:
-    """Does the steps of docs/operate/nodes.md, with copies of all machines' journals."""
+    """Does the steps of docs/operate/nodes.md#a-stream-that-lost-its-end, with copies of all machines' journals."""
     machines, tally = trial.machines, trial.tally
     for machine in machines.network.machines:
         source = os.path.join(machines.folder(machine), "journals")
