@@ -9,7 +9,7 @@ import pika
 from issuer_host.broker.addresses import services_of
 from issuer_host.broker.refusing_leaders import RefusingLeaders
 from issuer_host.broker.types import Callback, Channel, Step
-from issuer_host.broker.wire import decode_no_headers, keep_short_bodies, leave_debugging_out
+from issuer_host.broker.wire import decode_no_headers, keep_short_bodies, leave_debugging_out, send_joined
 from issuer_host.host.event_loop import Action, Loop
 
 RECONNECT_SECONDS = 0.3
@@ -68,6 +68,7 @@ class Link:
         self.returned: set[str] = set()
         decode_no_headers()
         leave_debugging_out()
+        send_joined()
 
     @property
     def channel(self) -> Optional[Channel]:

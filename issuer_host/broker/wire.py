@@ -1,20 +1,26 @@
-"""What is read of a message: the properties that are used, and its body up to a limit.
+"""What is read of a message: the properties that are used, and its body up to a limit. And how messages are sent.
 
 `pika` decodes all headers of a message before anybody sees it, and closes the connection at one that it doesn't like:
 the broker would deliver that message again, for ever. Nothing here uses a header but the offset of a stream's message,
 so no other is decoded. A body is kept in memory only as far as a request line, or a stream's message, can be long. Its
-lines for debugging are left out.
+lines for debugging are left out. It also sends each message by a system call of its own; here one
+call sends all that wait.
 """
 import logging
 import struct
+from collections import deque
+from collections.abc import Iterable
 from typing import Any, Optional, Union
 
 import pika
+from pika.adapters.utils import io_services_utils
 
 # The number of the class of messages in AMQP 0-9-1.
 BASIC = 60
 # Bytes of a body that are kept.
 KEPT = 4096
+# The most bytes of several messages that one call sends.
+SENT = 65_536
 # The properties of a message in their order, by the bit that says whether it is there, and how each is laid out.
 SHORT, TABLE, BYTE = "short", "table", "byte"
 LAYOUT = (
@@ -180,3 +186,31 @@ def leave_debugging_out() -> None:
         logger = logging.getLogger(name)
         if name.startswith(f"{pika.__name__}.") and not logger.isEnabledFor(logging.DEBUG):
             vars(logger)["debug"] = says_nothing
+
+
+def joined(pieces: Iterable[bytes], limit: int = SENT) -> "deque[bytes]":
+    """Joins neighbouring pieces as far as they don't exceed the limit. A longer piece stays as it is."""
+    groups: list[list[bytes]] = []
+    size = 0
+    for piece in pieces:
+        if not groups or size + len(piece) > limit:
+            groups.append([])
+            size = 0
+        groups[-1].append(piece)
+        size += len(piece)
+    return deque(map(b"".join, groups))
+
+
+def send_joined() -> None:
+    """Has all connections of this process send by one call what waits. (`pika` has no other place for it.)"""
+    transport: Any = vars(io_services_utils).get("_AsyncTransportBase")
+    one_by_one: Any = getattr(transport, "_produce", None)
+    if one_by_one is None or one_by_one.__module__ == __name__:
+        return
+
+    def produce(self: Any) -> None:
+        if len(self._tx_buffers) > 1:
+            self._tx_buffers = joined(self._tx_buffers)
+        one_by_one(self)
+
+    transport._produce = produce

@@ -102,7 +102,7 @@ class BrokerBridge:
         self.flight = self.replying.flight
         start = StartOptions(options.program or "", last_run=options.last_run)
         command = serving_command(options.config, options.journal, options.callers, start)
-        settings = HostSettings(command, options.journal, NAME, orders=options.orders or "")
+        settings = HostSettings(command, options.journal, NAME, orders=options.orders or "", is_batched=True)
         self.serving = PartitionHost(self.loop, settings, self.figures, self.replying, self)
         self.readiness = Readiness(NAME)
         self.is_stopping = False

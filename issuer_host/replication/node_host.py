@@ -45,7 +45,7 @@ class NodeHost:
         command = serving_command(settings.configuration, settings.journal, settings.callers, start)
         name = f"node: partition {settings.number}"
         moment = moment_of(settings.number)
-        host = HostSettings(command, settings.journal, name, orders=settings.orders, moment=moment)
+        host = HostSettings(command, settings.journal, name, orders=settings.orders, moment=moment, is_batched=True)
         self.serving = PartitionHost(
             loop, host, figures, consumer.replies, self, self, NotedWork(settings.journal, self, name)
         )
