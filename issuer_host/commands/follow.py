@@ -31,7 +31,8 @@ from typing import NamedTuple, Optional
 
 from issuer_host.facts.journals import journal_path
 from issuer_host.facts.limits import MAX_SHARDS, RUN_LINES
-from issuer_host.facts.refusal import Refusal, tell
+from issuer_host.facts.refusal import Refusal
+from issuer_host.facts.troubles import Level, say
 from issuer_host.facts.statuses import Status
 from issuer_host.files.durable_lines import AnswerPipe, FollowedJournal
 from issuer_host.files.seal_writer import SealWriter
@@ -135,7 +136,7 @@ class Follower:
                 path = journal_path(self.name, shard)
                 raise Refusal(f"there is no journal {path}, and the standby has {index} of its records")
         if not self.journals:
-            tell(NAME, f"there is no journal {journal_path(self.name, 0)} yet; waiting for it")
+            say(NAME, Level.NOTICE, f"there is no journal {journal_path(self.name, 0)} yet; waiting for it")
 
     def wait(self, seconds: float) -> None:
         """Waits for answers or so long, and takes the answers."""
@@ -186,7 +187,7 @@ class Follower:
         try:
             textfile.write(self.figures, {"journal": self.name}, values)
         except OSError as fault:
-            tell(NAME, f"no figures: {fault.strerror}")
+            say(NAME, Level.WARNING, f"no figures: {fault.strerror}")
 
 
 def starts_of(text: str) -> dict[int, int]:
@@ -218,9 +219,9 @@ def main(words: Sequence[str]) -> int:
     except Closed:
         return Status.OUTPUT
     except Refusal as refusal:
-        tell(NAME, str(refusal))
+        say(NAME, Level.ERROR, str(refusal))
         return 1
     except OSError as fault:
-        tell(NAME, f"{fault.filename or 'the output'}: {fault.strerror}")
+        say(NAME, Level.WARNING, f"{fault.filename or 'the output'}: {fault.strerror}")
         return 1
     return Status.OK

@@ -26,7 +26,7 @@ import subprocess
 from collections.abc import Sequence
 from typing import NamedTuple, Optional
 
-from issuer_host.facts.refusal import tell
+from issuer_host.facts.troubles import Level, say
 from issuer_host.facts.service_words import ServiceWords
 from issuer_host.facts.statuses import NOT_AGAIN, Status, meaning_of
 from issuer_host.host.asyncio_loop import AsyncioLoop
@@ -128,11 +128,16 @@ class KeptStandby:
     def run_ended(self, status: int, said: Sequence[str]) -> None:
         if status != Status.OK:
             last = said[-1] if said else "without a last line"
-            tell(NAME, f"the run over {self.options.journal} ended with {status}, {last}: {meaning_of(status)}")
+            level = Level.ERROR if status in NEED_A_PERSON else Level.WARNING
+            say(NAME, level, f"the run over {self.options.journal} ended with {status}, {last}: {meaning_of(status)}")
         self.run_end.set_result(RunEnd(status, said, status in NEED_A_PERSON))
 
     def run_killed(self, why: str, needs_person: bool) -> None:
-        tell(NAME, f"the run over {self.options.journal} is killed: {why}")
+        say(
+            NAME,
+            Level.ERROR if needs_person else Level.WARNING,
+            f"the run over {self.options.journal} is killed: {why}",
+        )
         self.run_end.set_result(RunEnd(Status.REFUSED if needs_person else None, (), needs_person))
 
     # From the first run to the end
@@ -172,7 +177,7 @@ class KeptStandby:
         try:
             source = await FeedCommand.start([*self.options.feed, "--from", counts])
         except OSError as fault:
-            tell(NAME, f"{self.options.feed[0]} can't be started: {fault.strerror}")
+            say(NAME, Level.WARNING, f"{self.options.feed[0]} can't be started: {fault.strerror}")
             return RunEnd(Status.OK, [it.replace(":", " ") for it in counts.split(",")])
         is_begun = self.begin_run()
         if is_begun:
@@ -180,7 +185,7 @@ class KeptStandby:
         has_ended = source.process.returncode is not None or source.output.at_eof()
         status = await source.end()
         if status and has_ended:
-            tell(NAME, f"{self.options.feed[0]} ended with {status}")
+            say(NAME, Level.WARNING, f"{self.options.feed[0]} ended with {status}")
         if not is_begun:
             return RunEnd(None, ())
         self.state = "takes what came"
@@ -192,7 +197,7 @@ class KeptStandby:
         try:
             self.runs.begin()
         except OSError as fault:
-            tell(NAME, f"no run can be started: {fault.strerror}")
+            say(NAME, Level.WARNING, f"no run can be started: {fault.strerror}")
             return False
         return True
 

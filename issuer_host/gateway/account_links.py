@@ -9,7 +9,7 @@ from collections.abc import Callable, Mapping
 from typing import Any, Optional, cast
 
 from issuer_host.gateway.account import Account
-from issuer_host.gateway.log import tell
+from issuer_host.gateway.log import notice, warn
 
 UNIX = "unix:"
 # Between two tries to connect; the greatest line; and what is buffered for an account that doesn't read.
@@ -37,13 +37,13 @@ class SocketLink(asyncio.Protocol):
                 return
             except OSError as fault:
                 if self.wait == RETRY_SECONDS[0]:
-                    tell(f"no connection to the account at {self.path}: {fault.strerror or fault}")
+                    warn(f"no connection to the account at {self.path}: {fault.strerror or fault}")
                 await asyncio.sleep(self.wait)
                 self.wait = min(2 * self.wait, RETRY_SECONDS[1])
 
     def connection_made(self, transport: asyncio.BaseTransport) -> None:
         self.transport, self.unread, self.wait = cast(asyncio.Transport, transport), b"", RETRY_SECONDS[0]
-        tell(f"the account is connected at {self.path}")
+        notice(f"the account is connected at {self.path}")
 
     def connection_lost(self, exc: Optional[Exception]) -> None:
         self.transport = None

@@ -16,7 +16,7 @@ from issuer_host.broker.publisher import Asker, PublishedRequest as Published
 from issuer_host.broker.types import Channel, Delivery, Properties
 from issuer_host.facts.answers import kind_of
 from issuer_host.gateway.figures import GatewayFigures
-from issuer_host.gateway.log import Limited, tell
+from issuer_host.gateway.log import Limited, notice
 from issuer_host.gateway.traffic import Question, Traffic
 from issuer_host.host.retry_policy import RetryPolicy
 
@@ -123,7 +123,7 @@ class BrokerConnection:
 
     def connected(self, is_connected: bool) -> None:
         if is_connected:
-            tell("the broker is connected")
+            notice("the broker is connected")
         self.figures.host_up[:] = [int(is_connected)] * len(self.figures.host_up)
         if not self.tried.done():
             self.tried.set_result(None)

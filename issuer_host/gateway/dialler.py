@@ -8,7 +8,7 @@ from typing import NamedTuple, Optional
 
 from issuer_host.gateway.connection import Connection
 from issuer_host.gateway.figures import GatewayFigures
-from issuer_host.gateway.log import tell
+from issuer_host.gateway.log import notice, warn
 from issuer_host.gateway.message import Codec
 from issuer_host.gateway.peer_names import PeerNames
 
@@ -65,7 +65,7 @@ class DialledLink:
         if certificate is not None and not self.names.accept(certificate):
             return BAD_NAME
         self.connection, self.since = connection, connection.loop.time()
-        tell(f"link {self.place.name}: connected")
+        notice(f"link {self.place.name}: connected")
         return ""
 
     def ended(self, connection: Connection, why: str) -> None:
@@ -108,7 +108,7 @@ class Dialler:
             link.ending = self.loop.create_future()
             why = await self.open(link) or await link.ending
             seconds = link.waits.next()
-            tell(f"link {link.place.name}: {why}; dialled again in {seconds:.1f} s")
+            warn(f"link {link.place.name}: {why}; dialled again in {seconds:.1f} s")
             await asyncio.sleep(seconds)
 
     async def open(self, link: DialledLink) -> str:

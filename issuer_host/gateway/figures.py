@@ -15,7 +15,7 @@ from issuer_host.facts.journals import journals_of
 from issuer_host.facts.proof import ProgramIdentity
 from issuer_host.facts.statuses import KILLED
 from issuer_host.gateway.admission import REASONS
-from issuer_host.gateway.log import tell
+from issuer_host.gateway.log import notice
 from issuer_host.gateway.mapping import REFUSALS
 
 # The labels of so many codes in element 39 are kept.
@@ -198,7 +198,7 @@ class PartitionFigures:
             self.figures.labelled["program"][labels] = 1
         self.figures.set("host_start_seconds", self.partition, round(seconds, 3))
         self.figures.set("host_ready_time_seconds", self.partition, round(time.time(), 3))
-        tell(f"partition {self.partition}: the host is ready after {seconds:.2f} s")
+        notice(f"partition {self.partition}: the host is ready after {seconds:.2f} s")
 
     def ended(self, status: int) -> None:
         self.figures.host_up[self.partition] = 0

@@ -15,7 +15,7 @@ from issuer_host.gateway.dialler import DialledLink, Dialler
 from issuer_host.gateway.figures import GatewayFigures
 from issuer_host.gateway.figures_page import FiguresPage
 from issuer_host.gateway.message_handler import MessageHandler
-from issuer_host.gateway.log import Limited, NAME, tell
+from issuer_host.gateway.log import Limited, NAME, fail, notice, warn
 from issuer_host.gateway.message import Codec
 from issuer_host.gateway.order_router import OrderRouter
 from issuer_host.gateway.pending_logs import PendingLogs
@@ -192,7 +192,7 @@ class Gateway:
             self.orders.open()
         refusals = [host.refusal for host in self.hosts]
         if None not in refusals:
-            tell("no host can be started")
+            fail("no host can be started")
             await self.end_hosts()
             return Status.USAGE if refusals[0] == Status.WORDS else refusals[0] or Status.REFUSED
         await self.listen(listeners, figures_port)
@@ -223,12 +223,12 @@ class Gateway:
         for it in listeners:
             port = await self.port.listen(it.address, it.port, functools.partial(Connection, self, it.codec, self.loop))
             by_tls = " by TLS" if self.port.context else ""
-            tell(f"{it.codec.dialect.name} on {it.address} port {port}{by_tls}")
+            notice(f"{it.codec.dialect.name} on {it.address} port {port}{by_tls}")
         if figures_port:
             try:
                 FiguresServer(figures_port, FiguresPage(self.loop, self.figures, self.journals)).start()
             except OSError as fault:
-                tell(f"no figures: {fault}")
+                warn(f"no figures: {fault}")
 
     def measure(self) -> None:
         """Sets what is measured of port and hosts when somebody asks for figures."""
@@ -269,7 +269,7 @@ class Gateway:
     async def drain(self) -> None:
         """Answers what is in flight, within its time limit, and ends connections and hosts."""
         service_manager.notify(NAME, "STOPPING=1")
-        tell(f"ends: {self.figures.in_flight} messages are in flight")
+        notice(f"ends: {self.figures.in_flight} messages are in flight")
         if self.orders is not None:
             self.orders.end()
         self.port.close()
@@ -303,9 +303,9 @@ def raise_file_limit(bounds: Bounds) -> None:
         if soft != resource.RLIM_INFINITY and soft < most:
             resource.setrlimit(resource.RLIMIT_NOFILE, (most, hard))
     except (OSError, ValueError) as fault:
-        tell(f"the limit of open files can't be raised: {fault}")
+        warn(f"the limit of open files can't be raised: {fault}")
         return
     if most < needed:
         share = max(most - OTHER_FILES, 0) / sockets
         bounds.connections, bounds.silent = (max(int(share * it), 1) for it in (bounds.connections, bounds.silent))
-        tell(f"{hard} files may be open, so {bounds.connections} connections are taken")
+        warn(f"{hard} files may be open, so {bounds.connections} connections are taken")

@@ -18,7 +18,7 @@ from issuer_host.facts.request_lines import objects_of, pan_of_line
 from issuer_host.gateway import mapping, requests
 from issuer_host.gateway.dialect import Dialect
 from issuer_host.gateway.message_handler import Exchange, MessageHandler
-from issuer_host.gateway.log import tell
+from issuer_host.gateway.log import notice
 from issuer_host.gateway.message import Message
 from issuer_host.gateway.requests import MAX_CHIP_DATA, RequestLine
 from issuer_host.gateway.responses import Decision, decision_of
@@ -100,12 +100,12 @@ class HttpPort:
                 await site.start()
             finally:
                 os.umask(before)
-            tell(f"HTTP at {self.place.path}")
+            notice(f"HTTP at {self.place.path}")
         else:
             site = web.TCPSite(self.runner, self.place.address, self.place.port, shutdown_timeout=self.end_seconds)
             await site.start()
             port = self.runner.addresses[0][1]
-            tell(f"HTTP on {self.place.address} port {port}")
+            notice(f"HTTP on {self.place.address} port {port}")
 
     async def close(self) -> None:
         if self.runner is not None:

@@ -52,7 +52,7 @@ from issuer_host.facts.statuses import Status
 from issuer_host.gateway import beside, options as options_of
 from issuer_host.gateway.dialler import DialledLink
 from issuer_host.gateway.gateway import Gateway, Partition
-from issuer_host.gateway.log import NAME, tell
+from issuer_host.gateway.log import NAME, fail
 from issuer_host.gateway.options import BadOptions
 from issuer_host.gateway.order_router import OrderRouter
 from issuer_host.gateway.peer_names import PeerNames
@@ -69,13 +69,13 @@ def main(words: Sequence[str]) -> int:
     try:
         return asyncio.run(run(words))
     except BadOptions as wrong:
-        tell(str(wrong))
+        fail(str(wrong))
         return Status.USAGE
     except Refusal as refusal:
-        tell(str(refusal))
+        fail(str(refusal))
         return Status.REFUSED
     except OSError as fault:
-        tell(f"{fault.filename or 'the address'}: {fault.strerror or fault}")
+        fail(f"{fault.filename or 'the address'}: {fault.strerror or fault}")
         return Status.PASSES
 
 

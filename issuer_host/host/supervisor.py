@@ -9,8 +9,8 @@ from collections.abc import Sequence
 from typing import Optional, Protocol
 
 from issuer_host.facts.journals import journals_of
-from issuer_host.facts.refusal import tell
-from issuer_host.facts.statuses import meaning_of
+from issuer_host.facts.troubles import Level, say
+from issuer_host.facts.statuses import NOT_AGAIN, meaning_of
 from issuer_host.files.open_journals import FirstJournals, Look, REPLACED
 from issuer_host.files.seal_writer import SealWriter
 from issuer_host.host.event_loop import Loop
@@ -170,7 +170,7 @@ class Supervisor:
                 if self.run is not None:
                     self.run.close_input()
             elif isinstance(action, Kill):
-                tell(self.name, f"the host over {self.journal} is killed: {action.why}")
+                say(self.name, Level.WARNING, f"the host over {self.journal} is killed: {action.why}")
                 if self.run is not None:
                     self.run.kill()
             elif isinstance(action, Wait):
@@ -180,14 +180,14 @@ class Supervisor:
 
     def start(self) -> None:
         if self.files.look() is Look.REPLACED:
-            tell(self.name, f"the journals {self.journal} {REPLACED}")
+            say(self.name, Level.ERROR, f"the journals {self.journal} {REPLACED}")
             self.act(self.lifecycle.was_replaced())
             return
         sealing = SealWriter(self.journal, self.name)
         try:
             self.run = HostProcess(self.loop, self.command, self.answered, self.ended)
         except OSError as fault:
-            tell(self.name, f"no host can be started: {fault.strerror}")
+            say(self.name, Level.WARNING, f"no host can be started: {fault.strerror}")
             self.act(self.lifecycle.could_not_start())
             return
         self.waits += 1
@@ -241,7 +241,9 @@ class Supervisor:
         self.clear()
         if status:
             said = stop_line or "without a last line"
-            tell(self.name, f"the host ended with {status}, {said}: {meaning_of(status)}")
+            # (so would the next one end)
+            level = Level.ERROR if status in NOT_AGAIN else Level.WARNING
+            say(self.name, level, f"the host ended with {status}, {said}: {meaning_of(status)}")
         actions = self.lifecycle.ended(status)
         self.owner.ended(status)
         self.act(actions)

@@ -27,7 +27,8 @@ from typing import NamedTuple, Optional
 from issuer_host.broker.redundancy import Redundancy, redundancy_of, replaces, what_is_lost
 from issuer_host.broker.settings import COMMAND, Control
 from issuer_host.broker.broker_watch import Act, BrokerWatch, HUNG_SECONDS
-from issuer_host.facts.refusal import Refusal, tell
+from issuer_host.facts.refusal import Refusal
+from issuer_host.facts.troubles import Level, say
 from issuer_host.telling.broker_figures import page_of
 from issuer_host.telling.figures_server import FiguresServer
 
@@ -89,37 +90,41 @@ class Watcher:
         if act is Act.START_AGAIN:
             self.start_again()
         elif act is Act.KILL:
-            tell(NAME, act.value)
+            say(NAME, Level.WARNING, act.value)
             self.kill()
         elif act is Act.TELL_ALONE and seen is not None:
             # (it sees no other that runs: its configuration names them)
-            tell(NAME, f"{act.value}: {replaces(seen.node, seen._replace(running=seen.others()))}")
+            say(NAME, Level.WARNING, f"{act.value}: {replaces(seen.node, seen._replace(running=seen.others()))}")
         self.tell_lost(what_is_lost(seen) if seen is not None and seen.runs and not seen.is_of_its_own() else [])
 
     def tell_lost(self, lost: list[str]) -> None:
         """Tells each copy that is missing once, and once that all are there again."""
         for line in lost:
             if line not in self.told:
-                tell(NAME, line)
+                say(NAME, Level.WARNING, line)
         if self.told and not lost:
-            tell(NAME, "nothing is missing any more, by this node")
+            say(NAME, Level.NOTICE, "nothing is missing any more, by this node")
         self.told = lost
 
     def start_again(self) -> None:
-        tell(NAME, Act.START_AGAIN.value)
+        say(NAME, Level.WARNING, Act.START_AGAIN.value)
         control = self.control()
         stop = [control.command, "--quiet", "stop_app"]
         subprocess.run(stop, capture_output=True, check=False)
         start = [control.command, "--quiet", "start_app"]
         while (started := subprocess.run(start, capture_output=True, text=True, check=False)).returncode:
-            tell(NAME, f"the broker's node doesn't start: {(started.stderr or started.stdout).strip()[:200]}")
+            say(
+                NAME,
+                Level.WARNING,
+                f"the broker's node doesn't start: {(started.stderr or started.stdout).strip()[:200]}",
+            )
             time.sleep(AGAIN_SECONDS)
-        tell(NAME, "the broker's node has joined the others")
+        say(NAME, Level.NOTICE, "the broker's node has joined the others")
 
     def kill(self) -> None:
         killed = subprocess.run(shlex.split(self.options.kill), capture_output=True, text=True, check=False)
         if killed.returncode:
-            tell(NAME, f"the broker can't be killed: {(killed.stderr or killed.stdout).strip()[:200]}")
+            say(NAME, Level.ERROR, f"the broker can't be killed: {(killed.stderr or killed.stdout).strip()[:200]}")
 
 
 def main(words: Sequence[str]) -> int:

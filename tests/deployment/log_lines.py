@@ -19,13 +19,15 @@ from runs import new_folder
 
 
 # Where lines of services are written; and what there is a command, whose lines a person reads at once.
-FOLDERS = ("broker", "files", "orders", "replication", "telling")
+FOLDERS = ("broker", "files", "gateway", "host", "orders", "replication", "telling")
 TO_PERSONS = {
     *("orders/client.py", "orders/offline.py", "orders/units.py"),
-    *(f"replication/{name}.py" for name in ("anew", "order", "probe", "rejoin", "replace")),
+    *(f"replication/{name}.py" for name in ("anew", "order", "probe", "replace")),
 }
 # A line that `tell` writes by itself, or what imports it for that.
-BARE = re.compile(r"^from issuer_host.facts.refusal import .*\btell\b|(?<![\w.])tell\((?:NAME|name|self\.name)")
+BARE = re.compile(
+    r"^from issuer_host.facts.refusal import .*\btell\b|(?<![\w.])tell\((?:NAME|name|self\.name)|\brefusal\.tell\("
+)
 
 
 def told(body: Any) -> "list[str]":
@@ -113,8 +115,8 @@ def a_log_that_is_not_written_is_told(tally: Tally) -> None:
 
 
 def modules_of_services() -> "list[str]":
-    """Returns the modules by which a node or a bridge writes lines, but for those of commands that talk to a person."""
-    found = [os.path.join(HOME, "issuer_host", "commands", "bridge.py")]
+    """Returns the modules by which a service writes lines, but for those of commands that talk to a person."""
+    found = [os.path.join(HOME, "issuer_host", "commands", f"{name}.py") for name in ("bridge", "follow", "standby")]
     for folder in FOLDERS:
         paths = sorted(glob.glob(os.path.join(HOME, "issuer_host", folder, "*.py")))
         found += [path for path in paths if os.path.relpath(path, os.path.join(HOME, "issuer_host")) not in TO_PERSONS]
@@ -122,9 +124,9 @@ def modules_of_services() -> "list[str]":
 
 
 def each_line_of_a_service_has_a_level(tally: Tally) -> None:
-    """No module of a node or a bridge writes a line without a level."""
+    """No module of a gateway, a bridge, a node, a follower or a watcher writes a line without a level."""
     modules = modules_of_services()
-    tally.holds(len(modules) > 50, f"only {len(modules)} modules")
+    tally.holds(len(modules) > 110, f"only {len(modules)} modules")
     for path in modules:
         with open(path, encoding="utf-8") as text:
             bare = [line.strip() for line in text if BARE.search(line)]

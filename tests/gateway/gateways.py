@@ -24,7 +24,7 @@ from switch.messages import Codec, Message
 
 DIALECTS = ("1987-ascii", "1993-packed")
 CODECS = {name: Codec(name) for name in DIALECTS}
-LISTENING = re.compile(r"gateway: (.*) on 127\.0\.0\.1 port ([0-9]+)")
+LISTENING = re.compile(r"gateway: notice: (.*) on 127\.0\.0\.1 port ([0-9]+)")
 START_SECONDS, END_SECONDS = 180.0, 30.0
 ZEROS = "0" * 10
 
