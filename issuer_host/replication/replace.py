@@ -10,7 +10,8 @@ both by rabbitmqctl. The old machine is off, or gone. It prints each step, check
     three of three: brokers 3 of 3, queues 3 of 3, streams 3 of 3, the coordinator of streams 3 of 3, journals 3 of 3
 
 or with what is missing, the command that mends it, and status 1. If a step at a broker fails for a cause that may pass,
-it says so and tries it again, five times in all. After any failure run it again: it goes on.
+it says so and tries it again, five times in all. It does no step more often that ends well and changes nothing. After
+any failure run it again: it goes on.
 
 Journals are there on a machine whose node serves or waits in the line of each partition's queue.
 
@@ -154,8 +155,9 @@ class Replacing:
         self.starts = 0
         self.is_node_started = False
         self.began = self.changed = time.monotonic()
-        # How often each step has failed since it was done last.
+        # How often each step has failed since it was done last, and how often it was done.
         self.failed: "dict[str, int]" = {}
+        self.done: "dict[str, int]" = {}
 
     def control(self, broker: str) -> Control:
         return Control(self.options.control, self.options.vhost, ("--node", broker))
@@ -205,7 +207,14 @@ class Replacing:
             self.note_failed(str(step), refusal)
         else:
             self.failed.pop(str(step), None)
-            self.changed = time.monotonic()
+            self.note_done(str(step))
+
+    def note_done(self, what: str) -> None:
+        """Refuses to do a step again and again that ends well and changes nothing."""
+        self.changed = time.monotonic()
+        self.done[what] = self.done.get(what, 0) + 1
+        if self.done[what] == TRIES:
+            raise Refusal(f"done {TRIES} times, and it isn't enough: {what}. See the log of {self.options.broker}")
 
     def note_failed(self, what: str, why: PassingRefusal) -> None:
         """Says what failed and is tried again, and waits; refuses once it was tried often enough."""

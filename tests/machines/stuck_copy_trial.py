@@ -75,30 +75,50 @@ def has_leader(trial: ReplacingTrial) -> bool:
     return False
 
 
+def what_is_expected(broken: Machine, living: Machine) -> "list[str]":
+    """Returns what is said of the copy, with the command that mends it."""
+    command = f"issuer-replace {name_of(broken)} --by {name_of(living)}"
+    return [f"{name_of(broken)} answers with no copy of {topology.stream_of(0)}: {command}"]
+
+
+def broken_and_named(trial: ReplacingTrial) -> "tuple[Machine, Machine]":
+    """Breaks a copy. It is named. Returns its machine, and one that lives."""
+    broken = broken_copy(trial)
+    living = next(one for one in trial.machines.network.machines if one != broken)
+    expected = what_is_expected(broken, living)
+    is_named = comes(lambda: what_is_lost(trial.seen_by(living)) == expected, SETTLE_SECONDS)
+    trial.tally.check(is_named, f"what is said of it: {what_is_lost(trial.seen_by(living))}")
+    return broken, living
+
+
 def stuck_copy(trial: ReplacingTrial) -> None:
     """A copy ends with a chunk of an older epoch: its broker never starts it again, until it is made anew."""
-    figures, machines, tally = FaultFigures(trial), trial.machines, trial.tally
+    machines, tally = trial.machines, trial.tally
     trial.ask()
-    figures.begin()
-    figures.watch(20.0)
-    broken = broken_copy(trial)
-    living = next(one for one in machines.network.machines if one != broken)
-    stream = topology.stream_of(0)
-    for one in machines.network.machines:
-        machines.broker_of(one).watch("--every", "3", "--figures", str(WATCH_PORT))
-    command = f"issuer-replace {name_of(broken)} --by {name_of(living)}"
-    expected = [f"{name_of(broken)} answers with no copy of {stream}: {command}"]
-    is_named = comes(lambda: what_is_lost(trial.seen_by(living)) == expected, SETTLE_SECONDS)
-    tally.check(is_named, f"what is said of it: {what_is_lost(trial.seen_by(living))}")
+    broken, living = broken_and_named(trial)
     trial.ask()
-    # (without a copy at its broker the machine's node can't read the stream either: that is one thing, and no page)
-    figures.watch(150.0, "IssuerCopyMissing", "IssuerMachineMissing")
-    figures.check()
-    tally.check(what_is_lost(trial.seen_by(living)) == expected, f"later: {what_is_lost(trial.seen_by(living))}")
     words = [REPLACE, name_of(broken), "--by", name_of(living), "--control"]
     words = machines.network.command(broken, [*words, machines.broker_of(broken).write_control()])
     done = subprocess.run(words, capture_output=True, text=True, check=False)
-    anew = f"give the new broker anew the copies of the streams {stream}"
-    tally.check(anew in done.stdout and DONE in done.stdout, f"issuer-replace: {done.stdout}{done.stderr}")
+    anew = f"give the new broker anew the copies of the streams {topology.stream_of(0)}"
+    is_done = anew in done.stdout and DONE in done.stdout
+    tally.check(is_done, f"issuer-replace: {done.stdout}{done.stderr}")
     print(done.stdout, end="")
-    trial.whole("after the copy was made anew")
+    if is_done:
+        trial.whole("after the copy was made anew")
+
+
+def stuck_copy_alerts(trial: ReplacingTrial) -> None:
+    """While a copy can't start its alerts fire, and no page: it stays so."""
+    figures, machines = FaultFigures(trial), trial.machines
+    trial.ask()
+    figures.begin()
+    figures.watch(20.0)
+    broken, living = broken_and_named(trial)
+    for one in machines.network.machines:
+        machines.broker_of(one).watch("--every", "3", "--figures", str(WATCH_PORT))
+    # (without a copy at its broker the machine's node can't read the stream either: that is one thing, and no page)
+    figures.watch(150.0, "IssuerCopyMissing", "IssuerMachineMissing")
+    figures.check()
+    later = what_is_lost(trial.seen_by(living))
+    trial.tally.check(later == what_is_expected(broken, living), f"later: {later}")

@@ -3,6 +3,7 @@
 usage: deploy/cluster up FOLDER [--partitions P] [--tick SECONDS]
        deploy/cluster status FOLDER
        deploy/cluster kill|start|cut|heal FOLDER MACHINE
+       deploy/cluster rabbitmqctl FOLDER MACHINE WORD ..
        deploy/cluster down FOLDER
 
 It is for tests and for trying. The machines are m1, m2 and m3; a bridge joins them, and this machine reaches all three.
@@ -11,7 +12,8 @@ It is for tests and for trying. The machines are m1, m2 and m3; a bridge joins t
 longer answers is believed in for the seconds of --tick (8); give more where processors are scarce. `status` prints a
 line a machine. A command runs on a machine by `ip netns exec NAMESPACE`, whose name `status` prints. `kill` ends all
 that runs on a machine, as if its power were gone, and `start` begins its broker again. `cut` loses all packets to and
-from it, and `heal` ends that. `down` ends all that runs there, takes the machines away, and leaves the folder.
+from it, and `heal` ends that. `rabbitmqctl` asks the broker of a machine. `down` ends all that runs there, takes the
+machines away, and leaves the folder.
 
 It needs root, iproute2, rabbitmq-server and python3-pika. Not for cards of anybody: the passwords are in the folder.
 """
@@ -30,6 +32,7 @@ from trials.machines.network import Machine, Network
 
 PARTITIONS = 4
 MARK = "cluster"
+CONTROL = "rabbitmqctl"
 # A node that just started says for some seconds that it has no copy of a stream, or that it knows no leader.
 TRIES = 10
 
@@ -40,6 +43,7 @@ class Options(NamedTuple):
     what: str
     folder: str
     machine: str
+    words: Sequence[str]
     partitions: int
     tick: int
 
@@ -118,9 +122,11 @@ def why_absent() -> Optional[str]:
 
 def options_of(words: Sequence[str]) -> Options:
     parser = argparse.ArgumentParser(usage=__doc__)
-    parser.add_argument("what", choices=("up", "down", "status", "kill", "start", "cut", "heal"))
+    parser.add_argument("what", choices=("up", "down", "status", "kill", "start", "cut", "heal", CONTROL))
     parser.add_argument("folder")
     parser.add_argument("machine", nargs="?", default="")
+    # (what follows a machine's name may be words of rabbitmqctl, with options of its own)
+    parser.add_argument("words", nargs=argparse.REMAINDER if CONTROL in words[:1] else "*")
     parser.add_argument("--partitions", type=int, default=PARTITIONS)
     parser.add_argument("--tick", type=int, default=TICK_SECONDS)
     return Options(**vars(parser.parse_args(words)))
@@ -137,6 +143,9 @@ def run(options: Options) -> None:
         raise Refusal(f"there is no cluster in {options.folder}")
     elif options.what == "down":
         cluster.down()
+    elif options.what == CONTROL:
+        print(cluster.brokers.of(cluster.machine(options.machine)).control(*options.words), end="")
+        return
     elif options.what != "status":
         cluster.do(options.what, cluster.machine(options.machine))
     if options.what != "down":

@@ -243,7 +243,10 @@ def leader_of(machines: Machines, partition: int) -> Machine:
     for line in text.splitlines():
         name, _, leader = line.partition("\t")
         if name == topology.stream_of(partition):
-            return next(machine for machine in machines.network.machines if leader.endswith(f"@{machine.address}"))
+            # (while one is chosen, the broker names none)
+            for machine in machines.network.machines:
+                if leader.endswith(f"@{machine.address}"):
+                    return machine
     raise RuntimeError(f"the stream of partition {partition} has no leader")
 
 
