@@ -28,8 +28,11 @@ def check_journals(name: str, shards: int, begins: bool, accepts: bool) -> None:
     missing = [shard for shard in range(shards) if shard not in found.journals]
     if found.journals and missing:
         refuse_missing(name, shards, found, missing[0])
+    if missing:
+        refuse_lost(name, missing)
     if missing and not begins:
-        refuse_none(name, bool(olds))
+        # (empty old ones are of this program's own run)
+        refuse_none(name, any(map(os.path.getsize, olds)))
     if found.journals and begins:
         raise Refusal(f"--begin was given, but the journals {name} exist: leave the word out")
     if missing:
@@ -113,6 +116,17 @@ def refuse_missing(name: str, shards: int, found: Shards, missing: int) -> None:
         raise Refusal(f"{why}, {what}")
     what = "its records would be decided again. Restore it from a copy, or mount its disk; don't create it"
     raise Refusal(f"{why}: {what}")
+
+
+def refuse_lost(name: str, missing: Sequence[int]) -> None:
+    """Refuses a start without journals whose seals are there, also with the word to begin. It creates nothing then."""
+    for shard in missing:
+        seals = seals_path(journal_path(name, shard))
+        if os.path.exists(seals) and os.path.getsize(seals):
+            raise Refusal(
+                f"{journal_path(name, shard)} is missing, and {seals} has seals of its records: they would be decided"
+                " again. Restore the journals from a copy, or mount their disk"
+            )
 
 
 def refuse_none(name: str, are_olds: bool) -> None:

@@ -67,6 +67,23 @@ def refuses_a_missing_journal(tally: Tally) -> None:
         tally.expect(host.start().returncode, Status.OK, "the status once the journal is back")
 
 
+def refuses_journals_whose_seals_are_left(tally: Tally) -> None:
+    """All journals are missing and their seals are there: no word begins over that, and nothing is created."""
+    with new_host(tally) as host:
+        host.begun()
+        journals = [host.journal(shard) for shard in range(SHARDS)]
+        for path in journals:
+            os.remove(path)
+            write_text(host.folder, f"{path}.seals", "a seal\n")
+            # (as the program leaves them, where nothing of version 1 was there)
+            write_text(host.folder, path.removesuffix(".v2"), "")
+        for words in ((), ("--begin",)):
+            ran = host.start(*words)
+            is_refused(tally, ran, f"a start with {words}", "is missing", "has seals", "Restore")
+            tally.holds("version 1" not in ran.stderr, f"old ones that are empty: {ran.stderr!r}")
+            tally.expect([path for path in journals if os.path.exists(path)], [], f"journals that {words} left")
+
+
 def refuses_a_journal_past_the_shards(tally: Tally) -> None:
     """A journal, or an old one, of a shard that the configuration doesn't have."""
     with new_host(tally) as host:
@@ -203,6 +220,7 @@ CHECKS = [
         says_that_a_program_is_another,
         runs_the_proved_program,
         refuses_a_missing_journal,
+        refuses_journals_whose_seals_are_left,
         refuses_a_journal_past_the_shards,
         refuses_open_files,
         refuses_what_is_no_file_beside,
