@@ -58,7 +58,7 @@ systemctl start $UNITS
 wait
 check with_it_they_are_answered "$(cat /out/asked)" "8 fresh"
 
-# The configuration encrypted, by the commands of deploy/README.md, "Keys at rest".
+# The configuration encrypted, by the commands of docs/operate/keys.md, "Keys at rest".
 CRED=/etc/issuer/0.cred
 decrypted() { systemd-creds decrypt --name=configuration $CRED - 2>/dev/null; }
 systemd-creds encrypt --name=configuration /etc/issuer/0.json $CRED
