@@ -1,4 +1,4 @@
-"""Brokers that come back from older disks: a stream lacks its end, and is begun anew by the commands of OPERATIONS."""
+"""Brokers that come back from older disks: a stream lacks its end, and begins anew (docs/operate/nodes.md)."""
 import os
 import shutil
 import subprocess

@@ -24,7 +24,8 @@ to a machine that serves a partition:
 - a file beside the journals is damaged, removed, or a named pipe in its place
 - a partition's disk goes away over an older copy, or over nothing: no node may go on over the copy
 
-Where a node stops a partition over its files, they are put right as OPERATIONS says: by copies of another's journals.
+Where a node stops a partition over its files, they are put right as docs/operate/nodes.md says: by copies of
+another's journals.
 
 --events has these happen alone, in their order: `events.py` has their names. Where nothing moves for a minute and a
 half, it says what it waits for, and what that lacks; with --loud it says each wait of its end where that begins.
