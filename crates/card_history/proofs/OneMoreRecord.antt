@@ -1,41 +1,51 @@
 -- What one more record at the end of a history changes for a card.
-use Rattle.std.proofs.Common.{◌≡◌, ℕ, ◌+◌, max, true, false, cond, List, [], ◌∷◌, ◌++◌, length, None, Some, refl, ap, sym, ◌∙◌, add-zero, append-nil, subst}
+use Rattle.std.proofs.Common.{◌≡◌, ℕ, ◌+◌, max, true, false, List, [], ◌∷◌, ◌++◌, length, Option, None, Some, refl, ap, sym, ◌∙◌, add-zero, append-nil, subst}
 use Rattle.std.proofs.Common.{inl, inr, ◌⊎◌, ◌≤◌, arith}
 use Rattle.std.proofs.lemmas.Bool.{cond-true, cond-false}
-use Rattle.std.proofs.lemmas.List.Elements.{All-from_recursion}
+use Rattle.std.proofs.lemmas.List.Elements.{All-from_recursion, filter_map-append}
 use Rattle.std.proofs.lemmas.Option.{same_Some}
-use Rattle.std.specs.List.{All, AllByRecursion}
+use Rattle.std.specs.List.{All, AllByRecursion, cons_option, enumerate_from, filter_map}
 use Rattle.std.specs.Option.{option_map_or}
 use Rattle.issuer_base.specs.declared.request.Request.{Request}
 use Rattle.issuer_base.specs.declared.answer.Reply.{Reply}
 use Rattle.issuer_base.specs.declared.entry.Entry.{Entry}
-use Rattle.issuer_base.specs.declared.entry.Entry.TheVariants.{Decided, Queued, Status}
+use Rattle.issuer_base.specs.declared.entry.Entry.TheVariants.{Decided}
 use Rattle.card_history.specs.declared.decision.Decision.{Decision}
 use Rattle.issuer_base.specs.CardNames.{CardName}
-use Rattle.card_history.specs.Records.{is_of, decided_from, decided, greatest_atc}
+use Rattle.card_history.specs.Records.{is_of, its_decision, decided, greatest_atc}
+
+-- a card's decisions among records of which the first has this index
+abbrev pub decided_from : ℕ → CardName → List Entry → List Decision
+decided_from place card records = filter_map (its_decision card) (enumerate_from place records)
+
+enumerate_from-append : (place : ℕ) (before after : List Entry)
+    → enumerate_from place (before ++ after) ≡ enumerate_from place before ++ enumerate_from (place + length before) after
+enumerate_from-append place [] after = ap (λ n. enumerate_from n after) (sym (add-zero place))
+enumerate_from-append place (entry ∷ before) after =
+    let at : place + 1 + length before ≡ place + length (entry ∷ before) = omega arith in
+    ap (λ (numbered : List (ℕ × Entry)). (place, entry) ∷ numbered)
+    (enumerate_from-append (place + 1) before after ∙ ap (λ n. enumerate_from (place + 1) before ++ enumerate_from n after) at)
 
 -- the decisions among records that are followed by others
 pub decided_from-append : (place : ℕ) (card : CardName) (before after : List Entry)
     → decided_from place card (before ++ after) ≡ decided_from place card before ++ decided_from (place + length before) card after
-decided_from-append place card [] after = ap (λ n. decided_from n card after) (sym (add-zero place))
-decided_from-append place card (Decided request reply ∷ before) after =
-    let rest = decided_from-append (place + 1) card before after in
-    let at : place + 1 + length before ≡ place + length (Decided request reply ∷ before) = omega arith in
-    let more = rest ∙ ap (λ n. decided_from (place + 1) card before ++ decided_from n card after) at in
-    elim (is_of card request) as
-    (λ is_its. (cond is_its (record { request = request; reply = reply; place = place } ∷ decided_from (place + 1) card (before ++ after))
-    (decided_from (place + 1) card (before ++ after)))
-    ≡ (cond is_its (record { request = request; reply = reply; place = place } ∷ decided_from (place + 1) card before)
-    (decided_from (place + 1) card before)) ++ decided_from (place + length (Decided request reply ∷ before)) card after) [
-      | true ↦ ap (λ decisions. record { request = request; reply = reply; place = place } ∷ decisions) more
-      | false ↦ more
-    ]
-decided_from-append place card (Queued pan psn command ∷ before) after =
-    let at : place + 1 + length before ≡ place + length (Queued pan psn command ∷ before) = omega arith in
-    decided_from-append (place + 1) card before after ∙ ap (λ n. decided_from (place + 1) card before ++ decided_from n card after) at
-decided_from-append place card (Status pan psn status ∷ before) after =
-    let at : place + 1 + length before ≡ place + length (Status pan psn status ∷ before) = omega arith in
-    decided_from-append (place + 1) card before after ∙ ap (λ n. decided_from (place + 1) card before ++ decided_from n card after) at
+decided_from-append place card before after =
+    ap (filter_map (its_decision card)) (enumerate_from-append place before after)
+    ∙ filter_map-append (its_decision card) (enumerate_from place before) (enumerate_from (place + length before) after)
+
+module _ (place : ℕ) (card : CardName) (request : Request) (reply : Reply) (records : List Entry) where
+  -- a decided record of the card is the first of the decisions from it on
+  pub decided_from-its : is_of card request ≡ true
+      → decided_from place card (Decided request reply ∷ records)
+      ≡ record { request = request; reply = reply; place = place } ∷ decided_from (place + 1) card records
+  decided_from-its its =
+      ap (λ (first : Option Decision). cons_option first (decided_from (place + 1) card records)) (cond-true (is_of card request) _ _ its)
+
+  -- one of another card is none of them
+  pub decided_from-other : is_of card request ≡ false
+      → decided_from place card (Decided request reply ∷ records) ≡ decided_from (place + 1) card records
+  decided_from-other other =
+      ap (λ (first : Option Decision). cons_option first (decided_from (place + 1) card records)) (cond-false (is_of card request) _ _ other)
 
 -- a decided record of the card is its last decision, at the place after the last record
 pub decided-more : (card : CardName) (history : List Entry) (request : Request) (reply : Reply) → is_of card request ≡ true
@@ -43,7 +53,7 @@ pub decided-more : (card : CardName) (history : List Entry) (request : Request) 
 decided-more card history request reply its =
     let place : 0 + length history ≡ length history = omega arith in
     decided_from-append 0 card history (Decided request reply ∷ [])
-    ∙ ap (λ last. decided card history ++ last) (cond-true (is_of card request) _ _ its)
+    ∙ ap (λ last. decided card history ++ last) (decided_from-its (0 + length history) card request reply [] its)
     ∙ ap (λ n. decided card history ++ record { request = request; reply = reply; place = n } ∷ []) place
 
 -- a decided record of another card is none of its decisions
@@ -51,7 +61,7 @@ pub decided-other : (card : CardName) (history : List Entry) (request : Request)
     → decided card (history ++ Decided request reply ∷ []) ≡ decided card history
 decided-other card history request reply other =
     decided_from-append 0 card history (Decided request reply ∷ [])
-    ∙ ap (λ last. decided card history ++ last) (cond-false (is_of card request) _ _ other)
+    ∙ ap (λ last. decided card history ++ last) (decided_from-other (0 + length history) card request reply [] other)
     ∙ append-nil (decided card history)
 
 -- one more decision raises the greatest counter, or leaves it

@@ -1,7 +1,8 @@
 -- What records at the end of a history change, or leave, of a card's queue, its statuses and its decisions.
-use Rattle.std.proofs.Common.{◌≡◌, ℕ, true, false, cond, List, [], ◌∷◌, ◌++◌, Option, None, Some, refl, ap, ◌∙◌, append-nil}
+use Rattle.std.proofs.Common.{◌≡◌, ℕ, true, false, List, [], ◌∷◌, ◌++◌, Option, None, Some, refl, ap, ◌∙◌, append-nil}
 use Rattle.std.proofs.lemmas.Bool.{cond-true, cond-false}
-use Rattle.std.specs.List.{last_or}
+use Rattle.std.proofs.lemmas.List.Elements.{filter_map-append}
+use Rattle.std.specs.List.{cons_option, filter_map, last_or}
 use Rattle.std.specs.Option.{unwrap_or}
 use Rattle.issuer_base.specs.declared.command.Command.{Command}
 use Rattle.issuer_base.specs.declared.request.Request.{Request}
@@ -9,34 +10,20 @@ use Rattle.issuer_base.specs.declared.answer.Reply.{Reply}
 use Rattle.issuer_base.specs.declared.entry.Entry.{Entry}
 use Rattle.issuer_base.specs.declared.entry.Entry.TheVariants.{Decided, Queued, Status}
 use Rattle.issuer_base.specs.CardNames.{CardName}
-use Rattle.card_history.specs.Records.{has_numbers, decided, queue, statuses, status_of}
+use Rattle.card_history.specs.Records.{has_numbers, decided, its_command, queue, its_status, status_of}
 use Rattle.card_history.proofs.OneMoreRecord.{decided_from-append}
 
 -- the commands that records queue for a card, and then those of other records
 pub queue-append : (card : CardName) (before after : List Entry) → queue card (before ++ after) ≡ queue card before ++ queue card after
-queue-append card [] after = refl
-queue-append card (Decided request reply ∷ before) after = queue-append card before after
-queue-append card (Queued pan psn command ∷ before) after =
-    elim (has_numbers card pan psn) as
-    (λ its. cond its (command ∷ queue card (before ++ after)) (queue card (before ++ after))
-    ≡ cond its (command ∷ queue card before) (queue card before) ++ queue card after) [
-      | true ↦ ap (λ (commands : List Command). command ∷ commands) (queue-append card before after)
-      | false ↦ queue-append card before after
-    ]
-queue-append card (Status pan psn status ∷ before) after = queue-append card before after
+queue-append card before after = filter_map-append (its_command card) before after
 
--- the statuses that records give to a card, and then those of other records
-pub statuses-append : (card : CardName) (before after : List Entry) → statuses card (before ++ after) ≡ statuses card before ++ statuses card after
-statuses-append card [] after = refl
-statuses-append card (Decided request reply ∷ before) after = statuses-append card before after
-statuses-append card (Queued pan psn command ∷ before) after = statuses-append card before after
-statuses-append card (Status pan psn status ∷ before) after =
-    elim (has_numbers card pan psn) as
-    (λ its. cond its (status ∷ statuses card (before ++ after)) (statuses card (before ++ after))
-    ≡ cond its (status ∷ statuses card before) (statuses card before) ++ statuses card after) [
-      | true ↦ ap (λ (given : List ℕ). status ∷ given) (statuses-append card before after)
-      | false ↦ statuses-append card before after
-    ]
+-- the statuses that records set for a card, oldest first
+abbrev pub statuses : CardName → List Entry → List ℕ
+statuses card records = filter_map (its_status card) records
+
+-- the statuses that records set for a card, and then those of other records
+statuses-append : (card : CardName) (before after : List Entry) → statuses card (before ++ after) ≡ statuses card before ++ statuses card after
+statuses-append card before after = filter_map-append (its_status card) before after
 
 last_or-push : {X : Type 0} (last : Option X) (xs : List X) (x : X) → last_or last (xs ++ x ∷ []) ≡ Some x
 last_or-push last [] x = refl
@@ -61,13 +48,13 @@ module _ (card : CardName) (history : List Entry) where
     pub queue-queued : has_numbers card pan psn ≡ true → queue card (history ++ Queued pan psn command ∷ []) ≡ queue card history ++ command ∷ []
     queue-queued its =
         queue-append card history (Queued pan psn command ∷ [])
-        ∙ ap (λ (last : List Command). queue card history ++ last) (cond-true (has_numbers card pan psn) (command ∷ []) [] its)
+        ∙ ap (λ (last : Option Command). queue card history ++ cons_option last []) (cond-true (has_numbers card pan psn) (Some command) None its)
 
     -- one that is queued for another card leaves them
     pub queue-queued_other : has_numbers card pan psn ≡ false → queue card (history ++ Queued pan psn command ∷ []) ≡ queue card history
     queue-queued_other other =
         queue-append card history (Queued pan psn command ∷ [])
-        ∙ ap (λ (last : List Command). queue card history ++ last) (cond-false (has_numbers card pan psn) (command ∷ []) [] other)
+        ∙ ap (λ (last : Option Command). queue card history ++ cons_option last []) (cond-false (has_numbers card pan psn) (Some command) None other)
         ∙ append-nil (queue card history)
 
     -- after a queued command a card's status stays
@@ -86,7 +73,7 @@ module _ (card : CardName) (history : List Entry) where
     status_of-status its =
         ap (λ (given : List ℕ). unwrap_or (last_or None given) 0)
         (statuses-append card history (Status pan psn status ∷ [])
-        ∙ ap (λ (last : List ℕ). statuses card history ++ last) (cond-true (has_numbers card pan psn) (status ∷ []) [] its))
+        ∙ ap (λ (last : Option ℕ). statuses card history ++ cons_option last []) (cond-true (has_numbers card pan psn) (Some status) None its))
         ∙ ap (λ (last : Option ℕ). unwrap_or last 0) (last_or-push None (statuses card history) status)
 
     -- one that another card is given leaves it
@@ -94,7 +81,7 @@ module _ (card : CardName) (history : List Entry) where
     status_of-status_other other =
         ap (λ (given : List ℕ). unwrap_or (last_or None given) 0)
         (statuses-append card history (Status pan psn status ∷ [])
-        ∙ ap (λ (last : List ℕ). statuses card history ++ last) (cond-false (has_numbers card pan psn) (status ∷ []) [] other)
+        ∙ ap (λ (last : Option ℕ). statuses card history ++ cons_option last []) (cond-false (has_numbers card pan psn) (Some status) None other)
         ∙ append-nil (statuses card history))
 
     -- after a status the commands that were queued for a card stay

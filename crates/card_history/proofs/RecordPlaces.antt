@@ -1,6 +1,6 @@
 -- A card's decisions are the decided records of the history that are of the card, each with its index.
-use Rattle.std.proofs.Common.{◌≡◌, ℕ, zero, suc, ◌+◌, true, false, cond, List, [], ◌∷◌, Contains, Some, refl, sym, subst, inl, inr, ◌⊎◌, add-zero, arith}
-use Rattle.std.proofs.lemmas.Bool.{cond-true, cond-false, cases_Bool}
+use Rattle.std.proofs.Common.{◌≡◌, ℕ, zero, suc, ◌+◌, true, List, [], ◌∷◌, Contains, Some, refl, sym, subst, inl, inr, ◌⊎◌, add-zero, arith}
+use Rattle.std.proofs.lemmas.Bool.{cases_Bool}
 use Rattle.std.specs.List.{slice_get}
 use Rattle.issuer_base.specs.declared.request.Request.{Request}
 use Rattle.issuer_base.specs.declared.answer.Reply.{Reply}
@@ -8,7 +8,8 @@ use Rattle.issuer_base.specs.declared.entry.Entry.{Entry}
 use Rattle.issuer_base.specs.declared.entry.Entry.TheVariants.{Decided, Queued, Status}
 use Rattle.card_history.specs.declared.decision.Decision.{Decision}
 use Rattle.issuer_base.specs.CardNames.{CardName}
-use Rattle.card_history.specs.Records.{is_of, decided_from, decided}
+use Rattle.card_history.specs.Records.{is_of, decided}
+use Rattle.card_history.proofs.OneMoreRecord.{decided_from, decided_from-its, decided_from-other}
 
 Contains-cons : {X : Type 0} (x : X) (xs : List X) (y : X) → Contains xs y → Contains (x ∷ xs) y
 Contains-cons x xs y (k, below, is) = (suc k, omega arith, is)
@@ -37,7 +38,7 @@ recorded_from place card (Decided request reply ∷ records) decision here =
       | inl its ↦
           let made : Decision = record { request = request; reply = reply; place = place } in
           let within : Contains (made ∷ decided_from (place + 1) card records) decision =
-          subst (λ (decisions : List Decision). Contains decisions decision) (cond-true (is_of card request) _ _ its) here in
+          subst (λ (decisions : List Decision). Contains decisions decision) (decided_from-its place card request reply records its) here in
           elim (Contains-cons_cases made _ decision within) [
             | inl same ↦ subst (λ (decision : Decision). IsRecord place card (Decided request reply ∷ records) decision) same
                 (record { index = zero; place_is = omega arith; record_is = refl; its = its })
@@ -45,7 +46,7 @@ recorded_from place card (Decided request reply ∷ records) decision here =
           ]
       | inr other ↦
           let within : Contains (decided_from (place + 1) card records) decision =
-          subst (λ (decisions : List Decision). Contains decisions decision) (cond-false (is_of card request) _ _ other) here in
+          subst (λ (decisions : List Decision). Contains decisions decision) (decided_from-other place card request reply records other) here in
           later place card (Decided request reply) records decision (recorded_from (place + 1) card records decision within)
     ]
 recorded_from place card (Queued pan psn command ∷ records) decision here =
@@ -61,7 +62,7 @@ decision_from place card (first ∷ records) zero request reply is its =
     let same : first ≡ Decided request reply = cc in
     let made : Decision = record { request = request; reply = reply; place = place } in
     let here : Contains (decided_from place card (Decided request reply ∷ records)) made =
-    subst (λ (decisions : List Decision). Contains decisions made) (sym (cond-true (is_of card request) _ _ its)) (0, omega arith, refl) in
+    subst (λ (decisions : List Decision). Contains decisions made) (sym (decided_from-its place card request reply records its)) (0, omega arith, refl) in
     let at : place ≡ place + 0 = sym (add-zero place) in
     subst (λ (n : ℕ). Contains (decided_from place card (first ∷ records)) (record { request = request; reply = reply; place = n })) at
     (subst (λ (first : Entry). Contains (decided_from place card (first ∷ records)) made) (sym same) here)
@@ -70,12 +71,10 @@ decision_from place card (Decided other answer ∷ records) (suc index) request 
     let after =
     subst (λ (n : ℕ). Contains (decided_from (place + 1) card records) (record { request = request; reply = reply; place = n })) at
     (decision_from (place + 1) card records index request reply is its) in
-    elim (is_of card other) as
-    (λ is_its. Contains
-    (cond is_its (record { request = other; reply = answer; place = place } ∷ decided_from (place + 1) card records)
-    (decided_from (place + 1) card records)) (record { request = request; reply = reply; place = place + suc index })) [
-      | true ↦ Contains-cons _ _ _ after
-      | false ↦ after
+    let there : List Decision → Type 0 = λ decisions. Contains decisions (record { request = request; reply = reply; place = place + suc index }) in
+    elim (cases_Bool (is_of card other)) [
+      | inl of_it ↦ subst there (sym (decided_from-its place card other answer records of_it)) (Contains-cons _ _ _ after)
+      | inr of_other ↦ subst there (sym (decided_from-other place card other answer records of_other)) after
     ]
 decision_from place card (Queued pan psn command ∷ records) (suc index) request reply is its =
     let at : place + 1 + index ≡ place + suc index = omega arith in

@@ -1,7 +1,7 @@
 -- What a shard's history states of a card: its decisions, its recorded ATCs and their window.
 use Rattle.std.specs.Prelude.{ℕ, ◌+◌, ◌≤◌, max, Bool, ◌&&◌, ◌==◌, nat_eq, if◌then◌else◌, List, [], ◌∷◌, Option, None, Some}
 use Rattle.std.specs.Cmp.Lexicographic.{pointwise}
-use Rattle.std.specs.List.{last_or}
+use Rattle.std.specs.List.{enumerate_from, filter_map, last_or}
 use Rattle.std.specs.Option.{option_map_or, unwrap_or}
 use Rattle.issuer_base.specs.declared.command.Command.{Command}
 use Rattle.issuer_base.specs.declared.limits.TheConstants.{WINDOW}
@@ -29,19 +29,15 @@ is_of card request = pointwise nat_eq request.pan card.pan && request.psn == car
 unfoldable pub has_numbers : CardName → List ℕ → ℕ → Bool
 has_numbers card pan psn = pointwise nat_eq pan card.pan && psn == card.psn
 
--- the card's decisions among records of which the first has this index, oldest first
-abbrev pub decided_from : ℕ → CardName → List Entry → List Decision
-decided_from place card [] = []
-decided_from place card (Decided request reply ∷ records) =
-    if is_of card request
-    then record { request = request; reply = reply; place = place } ∷ decided_from (place + 1) card records
-    else decided_from (place + 1) card records
-decided_from place card (Queued pan psn command ∷ records) = decided_from (place + 1) card records
-decided_from place card (Status pan psn status ∷ records) = decided_from (place + 1) card records
+-- the decision on this card that a record with its index is, or none
+abbrev pub its_decision : CardName → ℕ × Entry → Option Decision
+its_decision card (place, Decided request reply) =
+    if is_of card request then Some (record { request = request; reply = reply; place = place }) else None
+its_decision card _ = None
 
--- the card's decisions in a shard's history
+-- the card's decisions in a shard's history, oldest first
 abbrev pub decided : CardName → List Entry → List Decision
-decided card history = decided_from 0 card history
+decided card history = filter_map (its_decision card) (enumerate_from 0 history)
 
 -- the greatest ATC among these decisions, or none
 abbrev pub greatest_atc : List Decision → Option ℕ
@@ -58,22 +54,20 @@ IsBelowBy window (Some top) counter = counter + window ≤ top
 abbrev pub IsBelow : Option ℕ → ℕ → Type 0
 IsBelow greatest_atc counter = IsBelowBy WINDOW greatest_atc counter
 
+-- the command that a record queues for this card, or none
+abbrev pub its_command : CardName → Entry → Option Command
+its_command card (Queued pan psn command) = if has_numbers card pan psn then Some command else None
+its_command card _ = None
+
 -- the commands that were queued for a card, oldest first
 abbrev pub queue : CardName → List Entry → List Command
-queue card [] = []
-queue card (Queued pan psn command ∷ records) =
-    if has_numbers card pan psn then command ∷ queue card records else queue card records
-queue card (Decided request reply ∷ records) = queue card records
-queue card (Status pan psn status ∷ records) = queue card records
+queue card history = filter_map (its_command card) history
 
--- the statuses that were set for a card, oldest first
-abbrev pub statuses : CardName → List Entry → List ℕ
-statuses card [] = []
-statuses card (Status pan psn status ∷ records) =
-    if has_numbers card pan psn then status ∷ statuses card records else statuses card records
-statuses card (Decided request reply ∷ records) = statuses card records
-statuses card (Queued pan psn command ∷ records) = statuses card records
+-- the status that a record sets for this card, or none
+abbrev pub its_status : CardName → Entry → Option ℕ
+its_status card (Status pan psn status) = if has_numbers card pan psn then Some status else None
+its_status card _ = None
 
--- a card's status: the last one that was set, or 0
+-- a card's status: the last one that was set for it, or 0
 abbrev pub status_of : CardName → List Entry → ℕ
-status_of card history = unwrap_or (last_or None (statuses card history)) 0
+status_of card history = unwrap_or (last_or None (filter_map (its_status card) history)) 0

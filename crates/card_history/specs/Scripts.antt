@@ -67,19 +67,16 @@ settled_by Nothing scripts =
 settled_by Halt scripts =
     record { queue = scripts.queue; hi = scripts.hi; done = scripts.done; flight = None; halted = true }
 
--- the flight of the reply on this ATC: the longest prefix of the undone commands that one template carries, possibly
--- empty; there is none if the card's scripts are halted
-abbrev pub flight_from : ℕ → Scripts → Option Flight
-flight_from counter scripts =
-    if scripts.halted then None else Some (record { counter = counter; size = length (fitting_front (undone scripts)) })
-
--- the scripts once the flight of the reply on this ATC has begun; the ATC is the greatest one now
+-- the scripts once the flight of the reply on this ATC has begun: the longest prefix of the undone commands that one
+-- template carries, possibly empty; there is none if the scripts are halted. The ATC is the greatest one now
 abbrev pub launched : ℕ → Scripts → Scripts
 launched counter scripts = record {
   queue = scripts.queue;
   hi = Some counter;
   done = scripts.done;
-  flight = flight_from counter scripts;
+  flight =
+      if scripts.halted then None
+      else Some (record { counter = counter; size = length (fitting_front (undone scripts)) });
   halted = scripts.halted;
 }
 

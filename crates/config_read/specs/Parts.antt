@@ -28,13 +28,11 @@ abbrev pub ◌>>=◌ : {A B : Type 0} → Result A ConfigFault → (A → Result
 Ok value >>= next = next value
 Err fault >>= next = Err fault
 
--- the elements, if they are at least one and at most as many as the part may have
-abbrev pub in_number : ℕ → List Data → Option (List Data)
-in_number most elements = if nat_le 1 (length elements) && nat_le (length elements) most then Some elements else None
-
 -- the elements of a part, if it is a list of 1 to `most`
 abbrev pub part_elements : ConfigPart → List ℕ → ℕ → Data → Result (List Data) ConfigFault
-part_elements part name most value = ok_or (option_and_then (in_number most) (list_member name value)) (At part 0)
+part_elements part name most value =
+    ok_or (option_and_then (λ elements.
+    if nat_le 1 (length elements) && nat_le (length elements) most then Some elements else None) (list_member name value)) (At part 0)
 
 -- what the elements of a part are parsed as, or its first fault: at a malformed element, or at one in conflict with an
 -- earlier one

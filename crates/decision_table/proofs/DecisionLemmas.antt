@@ -1,5 +1,5 @@
 -- What the definition of a decision states: which row it is, and that a table always has one.
-use Rattle.std.proofs.Common.{◌≡◌, ℕ, zero, suc, ◌<◌, ◌==◌, true, false, ◌&&◌, List, [], ◌∷◌, length, refl, ap, sym, ◌∙◌, subst, inl, inr, Option, None, Some, IsTrue}
+use Rattle.std.proofs.Common.{◌≡◌, ℕ, zero, suc, ◌<◌, ◌==◌, true, false, List, [], ◌∷◌, length, refl, ap, sym, ◌∙◌, subst, inl, inr, Option, None, Some, IsTrue}
 use Rattle.std.proofs.Common.{IsSome, bit_and, arith}
 use Rattle.std.proofs.lemmas.Bool.{cond-true, cond-false, cases_Bool, and_parts, and_from, eqb-true, le-leb}
 use Rattle.std.proofs.lemmas.Option.{same_Some}
@@ -90,41 +90,39 @@ some-fits (row ∷ next ∷ rows) status request below ends none =
       | inr unfit ↦ some-fits (next ∷ rows) status request below ends (sym (cond-false (fits status request row) _ _ unfit) ∙ none)
     ]
 
--- among rows with their approval, the first with it that fits is the first that fits
-decision-fits : (rows : List TableRow) (status : ℕ) (request : Parts) → list_all tells_approval rows ≡ true
-    → decision rows status request ≡ find (fits status request) rows
-decision-fits [] status request told = refl
-decision-fits (row ∷ rows) status request told =
-    let parts = and_parts (tells_approval row) (list_all tells_approval rows) told in
-    let test : (tells_approval row && fits status request row) ≡ fits status request row = ap (λ told. told && fits status request row) parts.0 in
-    elim (cases_Bool (fits status request row)) [
-      | inl fitting ↦ cond-true (tells_approval row && fits status request row) _ _ (test ∙ fitting) ∙ sym (cond-true (fits status request row) _ _ fitting)
-      | inr unfit ↦
-          cond-false (tells_approval row && fits status request row) _ _ (test ∙ unfit) ∙ decision-fits rows status request parts.1
-          ∙ sym (cond-false (fits status request row) _ _ unfit)
-    ]
-
 -- in a table the first row that fits decides
 pub table-decision : (rows : List TableRow) (status : ℕ) (request : Parts) → IsTrue (is_table rows)
     → decision rows status request ≡ find (fits status request) rows
-unfolding is_table
-table-decision rows status request table = decision-fits rows status request (and_parts _ _ table).0
+table-decision rows status request table = cond-true (is_table rows) (find (fits status request) rows) None table
 
 -- the row of a table that decides fits, and none before it does
 pub decides : (rows : List TableRow) (status : ℕ) (request : Parts) (row : TableRow) → IsTrue (is_table rows)
     → decision rows status request ≡ Some row → IsDecision rows status request row
 decides rows status request row table found = first-fits rows status request row (sym (table-decision rows status request table) ∙ found)
 
--- a row that decides has its approval, whether the rows are a table or not
+-- of rows with their approval, the one that is found has it
+found-tells : (rows : List TableRow) (status : ℕ) (request : Parts) (row : TableRow) → list_all tells_approval rows ≡ true
+    → find (fits status request) rows ≡ Some row → tells_approval row ≡ true
+found-tells [] status request row told found = absurd (let no : None ≡ Some row = found in cc)
+found-tells (here ∷ rows) status request row told found =
+    let parts = and_parts (tells_approval here) (list_all tells_approval rows) told in
+    elim (cases_Bool (fits status request here)) [
+      | inl fitting ↦
+          let same : here ≡ row = same_Some here row (sym (cond-true (fits status request here) _ _ fitting) ∙ found) in
+          subst (λ (first : TableRow). tells_approval first ≡ true) same parts.0
+      | inr unfit ↦ found-tells rows status request row parts.1 (sym (cond-false (fits status request here) _ _ unfit) ∙ found)
+    ]
+
+-- a row that decides has its approval
 pub decision-tells : (rows : List TableRow) (status : ℕ) (request : Parts) (row : TableRow) → decision rows status request ≡ Some row
     → tells_approval row ≡ true
-decision-tells [] status request row found = absurd (let no : None ≡ Some row = found in cc)
-decision-tells (here ∷ rows) status request row found =
-    elim (cases_Bool (tells_approval here && fits status request here)) [
-      | inl decides ↦
-          let same : here ≡ row = same_Some here row (sym (cond-true (tells_approval here && fits status request here) _ _ decides) ∙ found) in
-          subst (λ (first : TableRow). tells_approval first ≡ true) same (and_parts (tells_approval here) _ decides).0
-      | inr other ↦ decision-tells rows status request row (sym (cond-false (tells_approval here && fits status request here) _ _ other) ∙ found)
+unfolding is_table
+decision-tells rows status request row found =
+    elim (cases_Bool (is_table rows)) [
+      | inl table ↦ found-tells rows status request row (and_parts (list_all tells_approval rows) _ table).0
+          (sym (table-decision rows status request table) ∙ found)
+      | inr other ↦
+          absurd (let no : None ≡ Some row = sym (cond-false (is_table rows) (find (fits status request) rows) None other) ∙ found in cc)
     ]
 
 -- such a row's card status update has four bytes

@@ -1,10 +1,10 @@
 -- Which rows of a decision table match a card's status and a request, and which row decides.
-use Rattle.std.specs.Prelude.{◌≡◌, ℕ, ◌<◌, Bool, true, false, ◌&&◌, ◌==◌, nat_le, bit_and, List, ◌∷◌, slice_get, Option, None, Some, IsTrue}
+use Rattle.std.specs.Prelude.{◌≡◌, ℕ, ◌<◌, Bool, true, false, ◌&&◌, if◌then◌else◌, ◌==◌, nat_le, bit_and, List, ◌∷◌, slice_get, Option, None, Some, IsTrue}
 use Rattle.std.specs.List.{find}
 use Rattle.issuer_base.specs.declared.request.Parts.{Parts}
 use Rattle.issuer_base.specs.ChipData.{cvr, amount_value}
 use Rattle.decision_table.specs.declared.row.TableRow.{TableRow}
-use Rattle.decision_table.specs.Tables.{tells_approval}
+use Rattle.decision_table.specs.Tables.{is_table}
 
 -- byte by byte, the byte under the mask is the value
 abbrev pub has_bits : List ℕ → List ℕ → List ℕ → Bool
@@ -26,10 +26,9 @@ fits status request row =
     && has_bits row.tvr_mask row.tvr_value request.tvr
     && has_bits row.cvr_mask row.cvr_value (cvr request)
 
--- the row that decides: the first that matches and has its approval in its card status update. In a table each row has,
--- so there it is the first that matches
+-- the row that decides: the first row of the table that matches. Rows that are no table decide nothing
 abbrev pub decision : List TableRow → ℕ → Parts → Option TableRow
-decision rows status request = find (λ row. tells_approval row && fits status request row) rows
+decision rows status request = if is_table rows then find (fits status request) rows else None
 
 -- a row that decides is at some index of the table and matches, and no row before that index matches
 pub record IsDecision (rows : List TableRow) (status : ℕ) (request : Parts) (row : TableRow) : Type 0 where

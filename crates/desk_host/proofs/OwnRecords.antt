@@ -10,7 +10,9 @@ use Rattle.issuer_base.specs.declared.answer.Reply.{Reply}
 use Rattle.issuer_base.specs.declared.entry.Entry.{Entry}
 use Rattle.issuer_base.specs.declared.entry.Entry.TheVariants.{Decided, Queued, Status}
 use Rattle.issuer_base.specs.declared.request.Request.{Request}
-use Rattle.card_history.specs.Records.{card_of, decided, decided_from, greatest_atc, has_numbers, is_of, status_of, statuses}
+use Rattle.card_history.specs.Records.{card_of, decided, greatest_atc, has_numbers, is_of, status_of}
+use Rattle.card_history.proofs.OneMoreRecord.{decided_from}
+use Rattle.card_history.proofs.OtherRecords.{statuses}
 use Rattle.card_history.specs.Scripts.{Scripts, after_record, no_scripts, scripts_of}
 use Rattle.card_history.specs.declared.decision.Decision.{Decision}
 use Rattle.issuer_setup.specs.CardList.{number_of}

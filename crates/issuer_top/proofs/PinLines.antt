@@ -1,9 +1,9 @@
 -- The line that queues a change of a PIN is read as just this command.
-use Rattle.std.proofs.Common.{◌≡◌, ℕ, zero, suc, ◌+◌, ◌<◌, ◌/◌, ◌%◌, List, [], ◌∷◌, ◌++◌, length, slice_index, Option, None, Some}
+use Rattle.std.proofs.Common.{◌≡◌, ℕ, zero, suc, ◌+◌, ◌<◌, List, [], ◌∷◌, ◌++◌, length, Option, None, Some}
 use Rattle.std.proofs.Common.{Ok, Err, refl, sym, ap, ap₂, ◌∙◌, arith, length-append}
 use Rattle.std.specs.Prelude.{IsTrue, codes}
-use Rattle.hex.specs.Hex.{IsBytes, encode_with, encode_lower, lower_digits}
-use Rattle.hex.proofs.HexLemmas.{IsDigits-lower_digits, decode_of-ok, decode_sized-ok, decode_sized-twice}
+use Rattle.hex.specs.Hex.{IsBytes, encode_lower}
+use Rattle.hex.proofs.HexLemmas.{decode_of-ok, decode_sized-ok, decode_sized-twice}
 use Rattle.issuer_base.specs.CardNames.{named}
 use Rattle.issuer_base.specs.ChipData.{digits_of}
 use Rattle.card_history.specs.declared.decision.Asked.TheVariants.{Queue}
@@ -15,10 +15,11 @@ use Rattle.retail_mac.specs.Mac.{cbc, cbc_from, xor_bytes}
 use Rattle.issuer_base.specs.declared.request.Suite.TheVariants.{TripleDes}
 use Rattle.key_derive.specs.SessionKey.{session_sm}
 use Rattle.key_derive.specs.declared.card.KeySet.{KeySet}
-use Rattle.chip_request.specs.Lines.{Says, Spells, SpellsByte, digits_text, spaced}
+use Rattle.chip_request.specs.Lines.{Says, digits_text, spaced}
 use Rattle.chip_request.specs.LineParts.{line_of}
 use Rattle.chip_request.specs.declared.line.LineKind.TheVariants.{Queue as IsQueue}
 use Rattle.chip_request.proofs.LineLaws.{line_reads, reads_once}
+use Rattle.terminal_kernel.proofs.LineRead.{spells-encode_lower}
 use Rattle.script_commands.proofs.Forms.{command_of-AreBytesOf}
 use Rattle.secure_msg.specs.PinChange.{pin_body, pin_command}
 use Rattle.secure_msg.specs.Pins.{is_pin, pin_block}
@@ -63,23 +64,6 @@ length-body smc r pin eight valid =
     let sixteen = length-enciphered key pin valid in
     omega (arith, parts, sixteen, eight)
 
--- two digits in lower case spell a byte
-spells_byte : (byte : ℕ) → byte < 256
-    → SpellsByte (slice_index lower_digits (byte / 16)) (slice_index lower_digits (byte % 16)) byte
-spells_byte byte below = record {
-  high_value = byte / 16;
-  low_value = byte % 16;
-  is_high = IsDigits-lower_digits (byte / 16) (omega arith);
-  is_low = IsDigits-lower_digits (byte % 16) (omega arith);
-  joined = omega arith;
-}
-
--- the hexadecimal text of bytes spells them
-spells-bytes : (bytes : List ℕ) → IsBytes bytes → Spells (encode_lower bytes) bytes
-unfolding encode_with
-spells-bytes [] fits = tt
-spells-bytes (byte ∷ bytes) fits = (spells_byte byte (fits 0), spells-bytes bytes (λ i. fits (suc i)))
-
 -- ---- the line
 
 -- a PIN change is a command of the host
@@ -123,7 +107,7 @@ module _ (issuer : Setup) (order : PinOrder) (words : List (List ℕ)) (pin : Is
         encode_lower bytes,
         refl,
         record { number = pin.pan_is; sequence = pin.psn_is },
-        record { spelled = spells-bytes bytes small; some = omega (arith, long); within = omega (arith, long) },
+        record { spelled = spells-encode_lower bytes small; some = omega (arith, long); within = omega (arith, long) },
       )
 
   is-read : (smc : Key16) → smc_for issuer order ≡ Some smc

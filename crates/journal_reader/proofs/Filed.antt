@@ -2,7 +2,7 @@
 use Rattle.std.proofs.Common.{◌≡◌, ◌≢◌, ℕ, ◌+◌, ◌<◌, ◌%◌, Bool, true, false, not, ◌&&◌, ◌||◌, ◌==◌, List, [], ◌∷◌, ◌++◌, length}
 use Rattle.std.proofs.Common.{Option, None, Some, refl, sym, ap, ap₂, subst, ◌∙◌, arith, append-nil, append_assoc, All, inl, inr, eq-eqb, get_or}
 use Rattle.std.specs.List.{enumerate_from, flat_map, list_any}
-use Rattle.std.proofs.lemmas.Bool.{and_parts, and_from, cases_Bool, cond-true, cond-false, eqb-true, ne_eqb, false≢true}
+use Rattle.std.proofs.lemmas.Bool.{and_parts, and_from, cases_Bool, eqb-true, ne_eqb, false≢true}
 use Rattle.std.proofs.lemmas.Grind.{flat_map-append}
 use Rattle.std.proofs.lemmas.List.{length_push}
 use Rattle.std.proofs.lemmas.List.Elements.{All-append, All-nil, All-push, All-head, All-tail}
@@ -16,9 +16,10 @@ use Rattle.issuer_base.specs.declared.request.Request.{Request}
 use Rattle.issuer_base.specs.declared.entry.Entry.TheVariants.{Decided, Queued, Status}
 use Rattle.card_history.specs.LegalRecords.{IsLegal}
 use Rattle.issuer_base.specs.CardNames.{CardName}
-use Rattle.card_history.specs.Records.{card_in, card_of, decided_from, is_of}
+use Rattle.card_history.specs.Records.{card_in, card_of, is_of}
 use Rattle.card_history.specs.declared.decision.Decision.{Decision}
 use Rattle.card_history.proofs.CardNames.{is_of-card_of}
+use Rattle.card_history.proofs.OneMoreRecord.{decided_from, decided_from-its, decided_from-other}
 use Rattle.issuer_setup.specs.CardList.{name_of, number_of}
 use Rattle.issuer_setup.proofs.CardListLemmas.{number_of-found}
 use Rattle.shard_book.specs.Grounds.{IsCardOfShard, grounds_of}
@@ -143,13 +144,13 @@ module _ (issuer : Setup) (shard number atc : ℕ) (name : CardName) (number_is 
       elim (cases_Bool (is_of name request)) [
         | inl of_it ↦
             All-tail (λ (decision : Decision). decision.request.atc ≢ atc) _ _
-            (subst (All (λ (decision : Decision). decision.request.atc ≢ atc)) (cond-true (is_of name request) _ _ of_it) others)
+            (subst (All (λ (decision : Decision). decision.request.atc ≢ atc)) (decided_from-its p name request reply history of_it) others)
         | inr of_other ↦
-            subst (All (λ (decision : Decision). decision.request.atc ≢ atc)) (cond-false (is_of name request) _ _ of_other) others
+            subst (All (λ (decision : Decision). decision.request.atc ≢ atc)) (decided_from-other p name request reply history of_other) others
       ] in
       let here : is_of name request ≡ true → request.atc ≢ atc = λ of_it.
       All-head (λ (decision : Decision). decision.request.atc ≢ atc) _ _
-      (subst (All (λ (decision : Decision). decision.request.atc ≢ atc)) (cond-true (is_of name request) _ _ of_it) others) in
+      (subst (All (λ (decision : Decision). decision.request.atc ≢ atc)) (decided_from-its p name request reply history of_it) others) in
       list_any-append (has_atc number atc) (filed_of issuer shard n (Decided request reply)) more
       ∙ ap₂ (λ (a b : Bool). a || b)
       (none-option n request reply (number_of (card_of request) issuer.cards) refl here)

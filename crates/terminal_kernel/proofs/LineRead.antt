@@ -23,7 +23,7 @@ spells_byte byte below = record {
 }
 
 -- the hexadecimal text of bytes spells them
-spells-encode_lower : (bytes : List ℕ) → IsBytes bytes → Spells (encode_lower bytes) bytes
+pub spells-encode_lower : (bytes : List ℕ) → IsBytes bytes → Spells (encode_lower bytes) bytes
 unfolding encode_with
 spells-encode_lower [] fits = tt
 spells-encode_lower (byte ∷ bytes) fits = (spells_byte byte (fits 0), spells-encode_lower bytes (λ i. fits (suc i)))

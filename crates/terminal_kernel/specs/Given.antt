@@ -1,6 +1,7 @@
 -- The data objects that are given to fill a list with, and which are refused.
 use Rattle.std.specs.Prelude.{ℕ, Bool, ◌&&◌, ◌==◌, nat_lt, nat_le, if◌then◌else◌, List, [], ◌∷◌, ◌++◌, map, length, Option, Some, None, is_none, Result, Ok}
-use Rattle.tlv_objects.specs.Tlv.{TlvObject, objects_of}
+use Rattle.tlv_objects.specs.Tlv.{TlvObject}
+use Rattle.chip_request.specs.Objects.{objects_of}
 use Rattle.terminal_kernel.specs.declared.given.BadData.{BadData}
 use Rattle.terminal_kernel.specs.declared.limits.TheConstants.{MAX_OBJECTS, MAX_VALUE_BYTES}
 use Rattle.terminal_kernel.specs.Dol.{unless_bad}

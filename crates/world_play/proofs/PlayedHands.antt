@@ -1,6 +1,7 @@
 -- A reply that reaches a card of a played run: the issuer's answer, and the script commands behind it.
 use Rattle.std.proofs.Common.{◌≡◌, ℕ, zero, suc, Bool, true, false, List, [], ◌∷◌, length, take, drop, Option, Some, None}
 use Rattle.std.proofs.Common.{Contains, refl, ap, ap₂, sym, ◌∙◌, subst, inl, inr, ◌⊎◌, cond}
+use Rattle.std.specs.List.{cons_option}
 use Rattle.std.specs.Prelude.{slice_get}
 use Rattle.std.specs.Option.{option_map_or}
 use Rattle.std.proofs.lemmas.Bool.{false≢true}
@@ -63,7 +64,7 @@ queue-sendable name (Status pan psn status ∷ records) each =
     queue-sendable name records (λ place pan psn command is. each (suc place) pan psn command is)
 queue-sendable name (Queued pan psn command ∷ records) each =
     let rest = queue-sendable name records (λ place pan psn command is. each (suc place) pan psn command is) in
-    elim (has_numbers name pan psn) as (λ its. AreSendable (cond its (command ∷ queue name records) (queue name records))) [
+    elim (has_numbers name pan psn) as (λ its. AreSendable (cons_option (cond its (Some command) None) (queue name records))) [
       | true ↦ (each zero pan psn command refl, rest)
       | false ↦ rest
     ]

@@ -1,11 +1,10 @@
 -- What the line that queues a command makes of a world of a played run.
-use Rattle.std.proofs.Common.{◌≡◌, ℕ, suc, ◌/◌, ◌%◌, ◌<◌, false, List, [], ◌∷◌, Option, Some, Ok}
-use Rattle.std.proofs.Common.{Contains, refl, ap, sym, ◌∙◌, subst, arith, lit<, slice_index}
+use Rattle.std.proofs.Common.{◌≡◌, ℕ, ◌%◌, ◌<◌, false, List, Option, Some, Ok}
+use Rattle.std.proofs.Common.{Contains, refl, ap, sym, ◌∙◌, subst, lit<}
 use Rattle.std.specs.Prelude.{slice_get}
 use Rattle.std.specs.Int.{w32, to_be_bytes}
 use Rattle.std.proofs.lemmas.Bool.{true≢false}
-use Rattle.hex.specs.Hex.{IsBytes, encode_with, encode_lower, lower_digits}
-use Rattle.hex.proofs.HexLemmas.{IsDigits-lower_digits}
+use Rattle.hex.specs.Hex.{encode_lower}
 use Rattle.issuer_base.specs.ScriptCommand.{is_command}
 use Rattle.issuer_base.specs.declared.answer.Answer.{Answer}
 use Rattle.issuer_base.specs.declared.answer.Answer.TheVariants.{Fresh, Kept, Queued as IsQueuedAnswer, Set as IsSetAnswer, Refused}
@@ -19,7 +18,7 @@ use Rattle.card_history.specs.declared.decision.Asked.TheVariants.{Queue}
 use Rattle.card_history.specs.LegalRecords.{IsLegalCommand}
 use Rattle.card_history.specs.Scripts.{waiting, scripts_of}
 use Rattle.script_queue.specs.CommandQueue.{TakesOneMore}
-use Rattle.chip_request.specs.Lines.{Spells, SpellsByte, Says}
+use Rattle.chip_request.specs.Lines.{Says}
 use Rattle.chip_request.specs.LineParts.{line_of}
 use Rattle.chip_request.specs.declared.line.LineKind.TheVariants.{Queue as IsQueueLine}
 use Rattle.chip_request.proofs.LineLaws.{line_reads, reads_once}
@@ -32,6 +31,7 @@ use Rattle.shard_book.specs.Answering.{is_store_fault, AnswersQueueing}
 use Rattle.shard_book.specs.Grounds.{grounds_of}
 use Rattle.host_loading.specs.Books.{ShardBook, histories_of as book_histories}
 use Rattle.one_caller.specs.Turns.{AnswersIn}
+use Rattle.terminal_kernel.proofs.LineRead.{spells-encode_lower}
 use Rattle.world_net.specs.declared.parts.MadeRequest.{MadeRequest}
 use Rattle.world_net.specs.Allowed.{CanQueue}
 use Rattle.world_net.specs.WorldState.{WorldState, shard_at, histories_of, with_record}
@@ -42,22 +42,6 @@ use Rattle.world_play.proofs.PlayedCards.{card-at, number-known}
 use Rattle.world_play.proofs.PlayedRequests.{AreBytes, more-bytes, bytes-four, card-pan, zero-bcd}
 use Rattle.world_play.proofs.PlayedWorlds.{IsPlayed, IsSendable, played-queued}
 use Rattle.world_play.proofs.PlayedAnswers.{book-history, histories-more, histories-stay}
-
--- two digits in lower case spell a byte
-spells_byte : (byte : ℕ) → byte < 256 → SpellsByte (slice_index lower_digits (byte / 16)) (slice_index lower_digits (byte % 16)) byte
-spells_byte byte below = record {
-  high_value = byte / 16;
-  low_value = byte % 16;
-  is_high = IsDigits-lower_digits (byte / 16) (omega arith);
-  is_low = IsDigits-lower_digits (byte % 16) (omega arith);
-  joined = omega arith;
-}
-
--- the hexadecimal text of bytes spells them
-spells-encode_lower : (bytes : List ℕ) → IsBytes bytes → Spells (encode_lower bytes) bytes
-unfolding encode_with
-spells-encode_lower [] fits = tt
-spells-encode_lower (byte ∷ bytes) fits = (spells_byte byte (fits 0), spells-encode_lower bytes (λ i. fits (suc i)))
 
 -- the command that is queued at a step
 abbrev pub queued_command : Step → ℕ → Command

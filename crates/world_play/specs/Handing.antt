@@ -2,7 +2,8 @@
 use Rattle.std.specs.Prelude.{ℕ, ◌==◌, Bool, List, [], ◌∷◌, map, Option, option_map, if◌then◌else◌, bit_xor}
 use Rattle.std.specs.List.{find, filter}
 use Rattle.std.specs.Option.{option_map_or}
-use Rattle.tlv_objects.specs.Tlv.{TlvObject, objects_of}
+use Rattle.tlv_objects.specs.Tlv.{TlvObject}
+use Rattle.chip_request.specs.Objects.{objects_of}
 use Rattle.card_model.specs.Application.{CardState}
 use Rattle.card_model.specs.CardSteps.{after_command, authenticated}
 
