@@ -3,5 +3,6 @@ pub mod Runs
 pub mod Faults
 pub mod Reading
 pub mod Ends
+pub mod Status
 pub mod Printing
 pub mod Written

@@ -1,4 +1,6 @@
 //! How the program ends.
+ghost use Rattle.std.specs.Prelude.{◌≡◌};
+ghost use Rattle.bridge_serve.specs.Status.{status_of};
 
 /// How the program ended.
 #[derive(Clone, Copy)]
@@ -19,8 +21,10 @@ pub enum Ended {
 }
 
 impl Ended {
-    /// The status of the program.
-    pub fn status(&self) -> u8 {
+    /// The exit status of the program.
+    pub fn status(&self) -> u8
+        ensures { result ≡ status_of self.now }
+    {
         match self {
             Ended::AtEnd => 0,
             Ended::Stopped => 1,
