@@ -114,7 +114,8 @@ def units_bound_memory(tally: Tally) -> None:
 
 def scraping_is_right(tally: Tally) -> None:
     """Prometheus takes the page's example of what is scraped, and it has each job and label that the rules name."""
-    section = content_of(os.path.join(DEPLOY, "README.md")).partition("\n## Figures\n")[2].partition("\n## ")[0]
+    page = content_of(os.path.join(HOME, "docs/operate/watch.md"))
+    section = page.partition("\n## Figures\n")[2].partition("\n## ")[0]
     lines = re.findall(r"(?m)^ {6}(.*)$", section.partition("scrape_configs:")[2].partition("\n\n")[0])
     text = "\n".join(("scrape_configs:", *lines, ""))
     rules = content_of(os.path.join(DEPLOY, "alerts.yml"))
